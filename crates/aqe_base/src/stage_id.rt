@@ -1,0 +1,5 @@
+//! The number of a stage.
+
+/// A stage of a query, numbered from 0 in the order in which stages are made.
+#[derive(Clone, Copy, Debug, PartialEq, Eq, Drop)]
+pub struct StageId(pub u32);
