@@ -1,0 +1,20 @@
+//! The values of SQL, rows of them, and the names and types of columns.
+#![tactic(auto)]
+
+mod laws;
+mod listing;
+mod memory;
+mod row;
+mod schema;
+mod sql_type;
+mod text;
+mod value;
+
+pub use laws::{rows_equal_as_data, values_equal_as_data};
+pub use listing::Listing;
+pub use memory::Memory;
+pub use row::{Row, Rows};
+pub use schema::{Field, Schema};
+pub use sql_type::SqlType;
+pub use text::Text;
+pub use value::Value;
