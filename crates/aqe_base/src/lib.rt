@@ -6,6 +6,8 @@ mod listing;
 mod memory;
 mod stage_id;
 mod status;
+#[cfg(test)]
+mod tests;
 
 pub use join_kind::JoinKind;
 pub use listing::{Bytes, Listing};

@@ -7,6 +7,8 @@ mod memory;
 mod row;
 mod schema;
 mod sql_type;
+#[cfg(test)]
+mod tests;
 mod text;
 mod value;
 
