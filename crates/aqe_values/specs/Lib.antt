@@ -1,2 +1,5 @@
 pub mod Bounds
 pub mod Equality
+pub mod Order
+pub mod RowHash
+pub mod Sizes

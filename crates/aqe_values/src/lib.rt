@@ -6,17 +6,21 @@ mod listing;
 mod memory;
 mod row;
 mod schema;
+mod size;
+mod sort_way;
 mod sql_type;
 #[cfg(test)]
 mod tests;
 mod text;
 mod value;
 
-pub use laws::{rows_equal_as_data, values_equal_as_data};
+pub use laws::{rows_equal_as_data, values_equal_as_data, values_ordered_by_type};
 pub use listing::Listing;
 pub use memory::Memory;
 pub use row::{Row, Rows};
 pub use schema::{Field, Schema};
+pub use size::row_size;
+pub use sort_way::{SortWay, compare};
 pub use sql_type::SqlType;
 pub use text::Text;
 pub use value::Value;

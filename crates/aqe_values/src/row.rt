@@ -3,9 +3,15 @@
 ghost use Rattle.std.specs.Prelude.{◌≡◌, ◌<◌, ◌≤◌, [], ◌∷◌, ◌++◌, length, IfOk, MatchResult, slice_index_or};
 ghost use Rattle.aqe_values.specs.Bounds.{row_limit};
 ghost use Rattle.aqe_values.specs.Equality.{row_eq, rows_equiv, rows_partial_equiv};
+ghost use Rattle.aqe_values.specs.Order.{derived_row_cmp, rows_total, rows_partial_order, rows_tie};
+ghost use Rattle.aqe_values.specs.RowHash.{row_writes, rows_alike};
+ghost use Rattle.std.specs.Ordering.{as_partial_cmp};
+ghost use Rattle.std.specs.Prelude.{refl};
 
 use crate::{Listing, Memory, Value};
 use std::alloc::Global;
+use std::cmp::Ordering;
+use std::hash::{Hash, Hasher};
 use std::marker::Model;
 
 /// A row of at most 1,024 values, which contracts see as the list of its values.
@@ -95,6 +101,40 @@ impl PartialEq for Row {
 
 impl Eq for Row {
     ghost laws = { rows_equiv };
+}
+
+impl Ord for Row {
+    ghost cmp = { derived_row_cmp };
+
+    ghost total = { rows_total };
+
+    ghost matches_partial_cmp = { λ a b. refl };
+
+    ghost matches_eq = { rows_tie };
+
+    fn cmp(&self, other: &Row) -> Ordering {
+        self.values.cmp(&other.values)
+    }
+}
+
+impl PartialOrd for Row {
+    ghost partial_cmp = { as_partial_cmp derived_row_cmp };
+
+    ghost laws = { rows_partial_order };
+
+    fn partial_cmp(&self, other: &Row) -> Option<Ordering> {
+        Some(self.cmp(other))
+    }
+}
+
+impl Hash for Row {
+    ghost hash_input = { row_writes };
+
+    ghost respects_eq = { rows_alike };
+
+    fn hash<H: Hasher>(&self, state: &mut H) {
+        self.values.hash(state);
+    }
 }
 
 fn copied(alloc: Global, values: &[Value]) -> Result<Vec<Value>, Memory>

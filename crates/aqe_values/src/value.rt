@@ -5,8 +5,11 @@ ghost use Rattle.std.specs.Prelude.{◌≡◌, IfOk};
 use crate::{Memory, Text};
 use std::alloc::Global;
 
-/// A value of a column or an expression. Equality is that of the data: NULL equals NULL.
-#[derive(Debug, PartialEq, Eq, Drop)]
+/// A value of a column or an expression.
+///
+/// Equality is that of the data: NULL equals NULL. The order is by type, as the variants stand here, and then by
+/// content: false before true, numbers by value, texts by their bytes.
+#[derive(Debug, PartialEq, Eq, PartialOrd, Ord, Hash, Drop)]
 pub enum Value {
     /// NULL, of each type.
     Null,

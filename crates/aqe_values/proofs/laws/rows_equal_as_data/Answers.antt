@@ -1,6 +1,5 @@
 -- Where the test of the values tells sameness, so does the test of the lists.
 use Rattle.std.specs.Cmp.Lexicographic.{pointwise_decides}
-use Rattle.std.specs.Prelude.{IsTrue, ◌≡◌, ◌↔◌}
 use Rattle.std.proofs.Common.{rules}
 use Rattle.aqe_values.specs.Equality.{ValuesEqualAsData}
 use Rattle.aqe_values.proofs.laws.rows_equal_as_data.Goals as goal
