@@ -1,0 +1,10 @@
+pub mod PartLemmas
+pub mod NumberLemmas
+pub mod Within
+pub mod Progress
+pub mod FaultLemmas
+pub mod ContentLemmas
+pub mod Once
+pub mod Known
+pub mod Stands
+pub mod Examples

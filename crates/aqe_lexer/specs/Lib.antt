@@ -1,0 +1,10 @@
+pub mod Faults
+pub mod Bytes
+pub mod Symbols
+pub mod Parts
+pub mod Numbers
+pub mod Pieces
+pub mod TokenList
+pub mod Content
+pub mod Spans
+pub mod Words
