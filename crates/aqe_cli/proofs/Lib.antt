@@ -1,0 +1,9 @@
+pub mod FieldFacts
+pub mod RecordFacts
+pub mod RowFacts
+pub mod TextFacts
+pub mod ScriptFacts
+pub mod ColumnFacts
+pub mod FormFacts
+pub mod FolderFacts
+pub mod RunFacts
