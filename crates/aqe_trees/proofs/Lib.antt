@@ -1,0 +1,2 @@
+pub mod OneExpression
+pub mod OneQuery

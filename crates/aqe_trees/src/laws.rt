@@ -1,0 +1,13 @@
+//! Laws of the grammar, each stated by the contract of a function that does nothing.
+
+ghost use Rattle.aqe_trees.specs.Laws.{OneQuery, OneTable};
+
+/// Terminals spell at most one query.
+pub fn one_query()
+    ensures { OneQuery }
+{}
+
+/// Terminals spell at most one CREATE TABLE.
+pub fn one_table()
+    ensures { OneTable }
+{}

@@ -1,0 +1,22 @@
+//! The trees of the language: what its sentences are made of, and which tokens spell which tree.
+#![tactic(auto)]
+
+mod expression;
+mod laws;
+mod query;
+mod statement;
+mod terminal;
+#[cfg(test)]
+mod tests;
+
+pub use expression::{
+    AndTree, Arm, CompareOp, ComparisonTree, NotTree, OrTree, PredicateTree, PrimaryTree,
+    ProductOp, ProductTree, Sign, SignTree, SumTree, Test, Truth,
+};
+pub use laws::{one_query, one_table};
+pub use query::{
+    CoreTree, ItemTree, JoinStep, JoinedTree, QueryTree, SelectTree, SortTree, SourceTree,
+    UnionTree,
+};
+pub use statement::{ColumnForms, OptionForms, Script, SetForm, Stmt, TableForm};
+pub use terminal::{Key, Terminal};
