@@ -1,8 +1,6 @@
 -- A list of terminals begins with at most one expression, where what is left does not go on with it.
-use Rattle.std.proofs.Common.{ℕ, List, [], ◌∷◌, Bool, true, false, ◌≡◌, ◌<◌, ◌≤◌, suc, zero, refl, sym, ap, subst, arith, lit<}
+use Rattle.std.proofs.Common.{ℕ, List, ◌∷◌, ◌≡◌, ◌<◌, refl, sym, subst, arith, lit<}
 use Rattle.std.specs.Prelude.{Option, Some, None}
-use Rattle.aqe_values.specs.declared.sql_type.SqlType.{SqlType}
-use Rattle.aqe_trees.specs.declared.terminal.Key.{Key}
 use Rattle.aqe_trees.specs.declared.terminal.Key.TheVariants as k
 use Rattle.aqe_trees.specs.declared.terminal.Terminal.{Terminal}
 use Rattle.aqe_trees.specs.declared.terminal.Terminal.TheVariants.{Fixed, Name, Number, Literal}
@@ -11,7 +9,6 @@ use Rattle.aqe_trees.specs.declared.expression.AndTree.{AndTree}
 use Rattle.aqe_trees.specs.declared.expression.NotTree.{NotTree}
 use Rattle.aqe_trees.specs.declared.expression.PredicateTree.{PredicateTree}
 use Rattle.aqe_trees.specs.declared.expression.Test.{Test}
-use Rattle.aqe_trees.specs.declared.expression.Truth.{Truth}
 use Rattle.aqe_trees.specs.declared.expression.CompareOp.{CompareOp}
 use Rattle.aqe_trees.specs.declared.expression.ComparisonTree.{ComparisonTree}
 use Rattle.aqe_trees.specs.declared.expression.Sign.{Sign}
@@ -21,8 +18,8 @@ use Rattle.aqe_trees.specs.declared.expression.ProductTree.{ProductTree}
 use Rattle.aqe_trees.specs.declared.expression.SignTree.{SignTree}
 use Rattle.aqe_trees.specs.declared.expression.PrimaryTree.{PrimaryTree}
 use Rattle.aqe_trees.specs.declared.expression.Arm.{Arm}
-use Rattle.aqe_trees.specs.Words.{compare_of, sum_of, product_of, truth_of, sign_at, type_of, is_word, count_word}
-use Rattle.aqe_trees.specs.Follow.{key_binds, binds, binds_at, Stops}
+use Rattle.aqe_trees.specs.Words.{compare_of, sum_of, product_of, sign_at}
+use Rattle.aqe_trees.specs.Follow.{binds, Stops}
 use Rattle.aqe_trees.specs.Expressions.{IsOr, or_of, IsOrRest, or_end, or_more, IsAnd, and_of, IsAndRest, and_end, and_more, IsNot, not_of, IsNots, affirmed, negated, IsPredicate, predicate_of, IsTest, plain, between, not_between, one_of, not_one_of, like, not_like, is_truth, is_not_truth, IsList, list_of, IsListRest, list_end, list_more, IsComparison, comparison_of, IsComparisonRest, comparison_end, comparison_more, IsSum, sum_of_products, IsSumRest, sum_end, sum_more, IsProduct, product_of_signs, IsProductRest, product_end, product_more, IsSign, sign_of, IsSigns, unsigned, signed, IsPrimary, number, negative_number, literal, is_true, is_false, null, column, table_column, paren, cast, case, case_of, count_all, call, IsArms, end, otherwise, when}
 
 -- which terminals begin an operand (2) and which a NOT (1)

@@ -1,12 +1,11 @@
 -- A list of terminals begins with at most one query, where what is left does not go on with it.
-use Rattle.std.proofs.Common.{ℕ, List, [], ◌∷◌, Bool, true, false, ◌≡◌, ◌<◌, ◌≤◌, suc, refl, sym, ap, subst, arith, lit<}
-use Rattle.std.specs.Prelude.{Option, Some, None, codes}
+use Rattle.std.proofs.Common.{ℕ, List, ◌∷◌, Bool, ◌≡◌, ◌<◌, suc, refl, sym, ap, subst, arith, lit<}
+use Rattle.std.specs.Prelude.{Option}
 use Rattle.aqe_base.specs.declared.join_kind.JoinKind.{JoinKind}
-use Rattle.aqe_values.specs.declared.sql_type.SqlType.{SqlType}
 use Rattle.aqe_trees.specs.declared.terminal.Key.{Key}
 use Rattle.aqe_trees.specs.declared.terminal.Key.TheVariants as k
 use Rattle.aqe_trees.specs.declared.terminal.Terminal.{Terminal}
-use Rattle.aqe_trees.specs.declared.terminal.Terminal.TheVariants.{Fixed, Name, Number, Literal}
+use Rattle.aqe_trees.specs.declared.terminal.Terminal.TheVariants.{Fixed, Name}
 use Rattle.aqe_trees.specs.declared.expression.OrTree.{OrTree}
 use Rattle.aqe_trees.specs.declared.expression.AndTree.{AndTree}
 use Rattle.aqe_trees.specs.declared.expression.NotTree.{NotTree}
@@ -30,9 +29,8 @@ use Rattle.aqe_trees.specs.declared.query.JoinStep.{JoinStep}
 use Rattle.aqe_trees.specs.declared.query.SourceTree.{SourceTree}
 use Rattle.aqe_trees.specs.declared.query.SortTree.{SortTree}
 use Rattle.aqe_trees.specs.declared.statement.TableForm.{TableForm}
-use Rattle.aqe_trees.specs.Words.{compare_of, sum_of, product_of, sign_at, nulls_of, type_of, option_key_of, option_value_of, is_word}
-use Rattle.aqe_trees.specs.Follow.{key_binds, binds, binds_at, Stops}
-use Rattle.aqe_trees.specs.Expressions.{IsOr, or_of, IsOrRest, or_end, or_more, IsAnd, and_of, IsAndRest, and_end, and_more, IsNot, not_of, IsNots, affirmed, negated, IsPredicate, predicate_of, IsTest, plain, between, not_between, one_of, not_one_of, like, not_like, is_truth, is_not_truth, IsList, IsComparison, comparison_of, IsComparisonRest, comparison_end, comparison_more, IsSum, sum_of_products, IsSumRest, sum_end, sum_more, IsProduct, product_of_signs, IsProductRest, product_end, product_more, IsSign, sign_of, IsSigns, unsigned, signed, IsPrimary, column}
+use Rattle.aqe_trees.specs.Follow.{key_binds, binds_at, Stops}
+use Rattle.aqe_trees.specs.Expressions.{IsOr, or_of, IsOrRest, or_end, or_more, IsAnd, and_of, IsAndRest, and_end, and_more, IsNot, not_of, affirmed, IsPredicate, predicate_of, IsTest, plain, between, not_between, one_of, not_one_of, like, not_like, is_truth, is_not_truth, IsComparison, comparison_of, IsComparisonRest, comparison_end, comparison_more, IsSum, sum_of_products, IsSumRest, sum_end, sum_more, IsProduct, product_of_signs, IsProductRest, product_end, product_more, IsSign, sign_of, unsigned, signed, IsPrimary, column}
 use Rattle.aqe_trees.specs.Lists.{Commas, no_comma, comma, Listed, listed, IsClause, no_clause, clause, IsBound, no_bound, bound, IsAlias, no_alias, alias, as_alias, IsDistinct, unsaid, all, distinct}
 use Rattle.aqe_trees.specs.Queries.{IsItem, all_columns, all_columns_of, one_column, IsWay, usual_way, ascending, descending, IsNulls, usual_nulls, nulls, IsSort, sort_of, IsOrder, unordered, ordered, IsGroup, ungrouped, grouped, IsKind, join, inner, cross, left, left_outer, right, right_outer, full, full_outer, semi, left_semi, anti, left_anti, IsQuery, query_of, IsUnion, union_of, IsUnionRest, union_end, union_more, IsCore, core_paren, core_select, IsSelect, select_of, IsFrom, no_from, from_of, IsFromRest, from_end, from_more, IsJoined, joined_of, IsJoinedRest, joined_end, joined_more, IsSource, table, source_paren}
 use Rattle.aqe_trees.specs.Tables.{IsColumn, column_of, IsOption, option_of, option_equal, IsPlace, location, options_location, location_options, IsCreate, create}

@@ -1,5 +1,5 @@
 -- The grammar of queries, as that of expressions is written: which tree begins a list of terminals, and what it leaves.
-use Rattle.std.specs.Prelude.{ℕ, List, [], ◌∷◌, Bool, true, false, Option, Some, None, ◌≡◌}
+use Rattle.std.specs.Prelude.{ℕ, List, [], ◌∷◌, Bool, true, false, Option, Some, ◌≡◌}
 use Rattle.aqe_base.specs.declared.join_kind.JoinKind.{JoinKind}
 use Rattle.aqe_base.specs.declared.join_kind.JoinKind.TheVariants as kind
 use Rattle.aqe_trees.specs.declared.terminal.Key.TheVariants as k

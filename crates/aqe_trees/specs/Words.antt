@@ -1,9 +1,8 @@
 -- Operators, types and other words, by the terminals that spell them.
-use Rattle.std.specs.Prelude.{ℕ, List, [], ◌∷◌, Bool, true, false, Option, Some, None, if◌then◌else◌, codes}
+use Rattle.std.specs.Prelude.{ℕ, List, ◌∷◌, Bool, true, false, Option, Some, None, if◌then◌else◌, codes}
 use Rattle.std.specs.Str.{str_eq_ignore_ascii_case}
 use Rattle.aqe_values.specs.declared.sql_type.SqlType.{SqlType}
 use Rattle.aqe_values.specs.declared.sql_type.SqlType.TheVariants as kind
-use Rattle.aqe_trees.specs.declared.terminal.Key.{Key}
 use Rattle.aqe_trees.specs.declared.terminal.Key.TheVariants as k
 use Rattle.aqe_trees.specs.declared.terminal.Terminal.{Terminal}
 use Rattle.aqe_trees.specs.declared.terminal.Terminal.TheVariants.{Fixed, Name, Number, Literal}
