@@ -106,7 +106,7 @@ next_read text read rest n c more next r h e comma some =
         let each : IsTrue (list_all is_column (read ++ d ∷ [])) = rw (← is) a in
         let parts = both (list_all is_column read) (list_all is_column (d ∷ [])) (rw (list_all-append is_column read (d ∷ [])) at each) in
         let ends = column_once c d more [] h (both (is_column d) true parts.1).0 (sym e ∙ at) in
-        absurd (cc (some, ends.1))
+        absurd (cc ends.1)
     by all (d ∷ k ∷ ks, is, l, at) a =
         let each : IsTrue (list_all is_column (read ++ d ∷ k ∷ ks)) = rw (← is) a in
         let parts = both (list_all is_column read) (list_all is_column (d ∷ k ∷ ks)) (rw (list_all-append is_column read (d ∷ k ∷ ks)) at each) in

@@ -7,3 +7,4 @@ pub mod ColumnFacts
 pub mod FormFacts
 pub mod FolderFacts
 pub mod RunFacts
+pub mod TextLaw

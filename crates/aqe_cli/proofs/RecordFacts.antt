@@ -10,7 +10,7 @@ use Rattle.csv.specs.declared.reader.Reader.{Reader}
 use Rattle.csv.proofs.ReadFacts.{reached-more}
 use Rattle.aqe_values.specs.Bounds.{text_limit}
 use Rattle.aqe_cli.specs.declared.table.TableFail.TheVariants as fail
-use Rattle.aqe_cli.specs.Table.{AreShort, IsRefused, fail_of, file_config}
+use Rattle.aqe_cli.specs.Table.{AreShort, AreTexts, IsRefused, fail_of, file_config}
 use Rattle.csv.specs.declared.parser.Config.{Config}
 use Rattle.csv.specs.declared.parser.Terminator.{Terminator}
 use Rattle.csv.specs.declared.parser.Terminator.TheVariants as term
@@ -215,3 +215,30 @@ refused_cause rem old new bytes read left (kind.Utf8 p e) ec ef es h w r =
     refused_at bytes read old.state left (pending_of (rem new.rdr) new) w.1 new.state h (rw (ec, es) at w.2) w.3
 refused_cause rem old new bytes read left (kind.Serialize t) ec ef es h w r = absurd w
 refused_cause rem old new bytes read left (kind.Deserialize p e) ec ef es h w r = absurd w
+
+-- one text record more
+pub texts_more : (read : List (List (List ℕ))) (f : List (List ℕ)) → AreTexts read → AllText f → AreTexts (read ++ f ∷ [])
+unfolding AreTexts
+texts_more [] f h k = (k, tt)
+texts_more (r ∷ rs) f h k = (h.0, texts_more rs f h.1 k)
+
+-- a record that is reached is among all records of the text
+reached_text : (cfg : Config) (s : State) (xs : List ℕ) (before : List (List (List ℕ))) (f : List (List ℕ)) (s3 : State) (zs : List ℕ)
+    (read : List (List (List ℕ))) (s2 : State) (ys : List ℕ)
+    → Reached cfg s xs (before ++ f ∷ []) s3 zs → Reached cfg s xs read s2 ys → next_record cfg s2 [] [] ys ≡ None → AreTexts read → AllText f
+unfolding Reached AreTexts
+reached_text cfg s xs [] f s3 zs [] s2 ys (p, e, is, h) k none t = let some = rw (k.0, k.1) at e in cc (some, none)
+reached_text cfg s xs [] f s3 zs (r ∷ rs) s2 ys (p, e, is, h) (q, g, at, k) none t =
+    let same : p ≡ q = cc (e, g) in
+    let one : f ≡ r = is ∙ ap (λ (x : Read). x.0) same ∙ sym at in
+    rw one t.0
+reached_text cfg s xs (b ∷ bs) f s3 zs [] s2 ys (p, e, is, h) k none t = let some = rw (k.0, k.1) at e in cc (some, none)
+reached_text cfg s xs (b ∷ bs) f s3 zs (r ∷ rs) s2 ys (p, e, is, h) (q, g, at, k) none t =
+    let same : p ≡ q = cc (e, g) in
+    reached_text cfg q.1 q.2 bs f s3 zs rs s2 ys (rw same at h) k none t.1
+
+-- where all records are text, the file is not refused
+pub all_taken : (bytes : List ℕ) (read : List (List (List ℕ))) (s2 : State) (ys : List ℕ)
+    → Reached file_config st.StartRecord (strip_bom bytes) read s2 ys → next_record file_config s2 [] [] ys ≡ None → AreTexts read → ¬ (IsRefused bytes)
+all_taken bytes read s2 ys h none t r =
+    r.no_text (reached_text file_config st.StartRecord (strip_bom bytes) r.before r.fields r.state r.rest read s2 ys r.reached h none t)

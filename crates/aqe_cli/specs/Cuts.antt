@@ -34,7 +34,8 @@ pub record AreColumns (columns : List Field) : Type 0 where
   pub bound : length columns ≤ 256
   pub each : IsTrue (list_all is_column columns)
 
--- The columns that were read of a text, and the rest: the rest is not empty, and whatever columns the text writes begin with those.
+-- The columns that were read of a text, and the rest of it: whatever columns the text writes begin with those, and
+-- the rest writes the others, of which there is one at least.
 pub record ReadsColumns (text : List ℕ) (read : List Field) (rest : List ℕ) (count : ℕ) : Type 0 where
   pub counted : length read ≡ count
   pub each : IsTrue (list_all is_column read)

@@ -45,16 +45,18 @@ pub record HasBytes (files : Entries) (folder bytes : List ℕ) : Type 0 where
   pub one : HasOneFile files folder name
   pub held : content_of files (folder ++ 47 ∷ name) ≡ Some bytes
 
--- a byte of a table's file that is read so far: up to `~`, and neither `"` nor `\\`
+-- a byte of a table's file that is read so far: up to `~`, and neither `"` nor `\`
 abbrev pub is_plain : ℕ → Bool
 is_plain c = nat_le c 126 && not (c == 34) && not (c == 92)
 
--- the rows of a table: those of its one data file, which is short enough and has plain bytes
+-- the rows of a table: those of its one data file, which is short enough, has plain bytes and is not
+-- refused by the reader of CSV
 pub record HasRows (files : Entries) (form : TableForm) (rows : List (List Value)) : Type 0 where
   pub bytes : List ℕ
   pub file : HasBytes files form.location bytes
   pub fits : length bytes ≤ text_limit
   pub plain : IsTrue (list_all is_plain bytes)
+  pub taken : ¬ (IsRefused bytes)
   pub are : rows ≡ file_rows form.columns bytes
 
 -- the run prints this text: that of the table's rows under its columns
@@ -68,8 +70,10 @@ pub record Prints (files : Entries) (words : List (List ℕ)) (text : List ℕ) 
 -- The rows of a table are not read yet where its folder has not one data file, or where that file is too long, has a
 -- byte that is not plain, or is refused by the reader of CSV.
 pub data HasNoRowsYet (files : Entries) (form : TableForm) : Type 0 where
-  not_one_file : IsFolder files form.location → ((name : List ℕ) → ¬ (HasOneFile files form.location name)) → HasNoRowsYet files form
-  long_file : (bytes : List ℕ) → HasBytes files form.location bytes → text_limit < length bytes → HasNoRowsYet files form
+  not_one_file : IsFolder files form.location
+      → ((name : List ℕ) → ¬ (HasOneFile files form.location name)) → HasNoRowsYet files form
+  long_file : (bytes : List ℕ) → HasBytes files form.location bytes → text_limit < length bytes
+      → HasNoRowsYet files form
   strange_byte : (bytes : List ℕ) → HasBytes files form.location bytes → length bytes ≤ text_limit
       → IsFalse (list_all is_plain bytes) → HasNoRowsYet files form
   refused_file : (bytes : List ℕ) → HasBytes files form.location bytes → length bytes ≤ text_limit
@@ -82,14 +86,23 @@ IsMisused words = (path : List ℕ) → ¬ (RunsScript words path)
 -- a file or folder that the run needs in its turn is not there
 pub data IsMissing (files : Entries) (words : List (List ℕ)) : Type 0 where
   no_script : (path : List ℕ) → RunsScript words path → ¬ (IsHeld files path) → IsMissing files words
-  no_folder : (form : TableForm) → ComesToTable files words form → ¬ (IsFolder files form.location) → IsMissing files words
+  no_folder : (form : TableForm) → ComesToTable files words form → ¬ (IsFolder files form.location)
+      → IsMissing files words
 
 -- the run needs what this program does not have yet; the causes in the order of work
 pub data IsNotBuilt (files : Entries) (words : List (List ℕ)) : Type 0 where
-  long_script : (source : List ℕ) → ComesToScript files words source → text_limit < length source → IsNotBuilt files words
+  long_script : (source : List ℕ) → ComesToScript files words source → text_limit < length source
+      → IsNotBuilt files words
   other_script : (source : List ℕ) → ComesToScript files words source → length source ≤ text_limit
       → ((form : TableForm) → ¬ (IsScript source form)) → IsNotBuilt files words
-  no_rows_yet : (form : TableForm) → ComesToTable files words form → HasNoRowsYet files form → IsNotBuilt files words
+  no_rows_yet : (form : TableForm) → ComesToTable files words form → HasNoRowsYet files form
+      → IsNotBuilt files words
+
+-- no cause of a refusal holds
+pub record IsAccepted (files : Entries) (words : List (List ℕ)) : Type 0 where
+  pub used : ¬ (IsMisused words)
+  pub there : ¬ (IsMissing files words)
+  pub built : ¬ (IsNotBuilt files words)
 
 -- the answers of a run
 abbrev pub is_answer : Status → Bool

@@ -102,3 +102,7 @@ pub record IsScript (source : List ℕ) (form : TableForm) : Type 0 where
   pub query : List ℕ
   pub shows : IsQuery query form.name
   pub spelled : source ≡ table_text form.name (columns_text form.columns) form.location ++ query
+
+-- a source makes one table at most
+abbrev pub SourcesMakeOneTable : Type 0
+SourcesMakeOneTable = (source : List ℕ) (a b : TableForm) → IsScript source a → IsScript source b → a ≡ b

@@ -27,7 +27,8 @@ is_refusal status.StageAborted = false
 is_refusal status.Unfinished = false
 
 -- Files that are told stay as they are, no count falls, and an answer that blames the store has its count risen.
-pub record IsStep {A : Type 0} (told told' : Option Entries) (faults faults' misses misses' : ℕ) (result : Result A Status) : Type 0 where
+pub record IsStep {A : Type 0} (told told' : Option Entries) (faults faults' misses misses' : ℕ)
+    (result : Result A Status) : Type 0 where
   pub keeps : KeepsFiles told told'
   pub faults_stay : faults ≤ faults'
   pub misses_stay : misses ≤ misses'

@@ -16,15 +16,18 @@ use Rattle.aqe_cli.specs.declared.table.TableFail.{TableFail}
 use Rattle.aqe_cli.specs.declared.table.TableFail.TheVariants as fail
 use Rattle.aqe_cli.specs.Fields.{field_value}
 
--- How a file is cut into fields: at commas, with fields between `"` in which `""` stands for `"` and `\\` for the byte after it.
+-- How a file is cut into fields: at commas. In a field between `"` a `""` stands for `"`, and a `\` and a byte for
+-- that byte.
 abbrev pub file_config : Config
 file_config = record default_config { escape = Some 92 }
 
--- The records of a file, as the reader of CSV states them. An empty line is no record, and records may differ in length.
+-- The records of a file, as the reader of CSV states them. An empty line is no record, and records may differ in
+-- length.
 abbrev pub file_records : List ℕ → List (List (List ℕ))
 file_records bytes = records file_config (strip_bom bytes)
 
--- A record as a row of the columns: a field that is missing is NULL, and fields beyond the last column are left out.
+-- A record as a row of the columns: a field that is missing is NULL, and fields beyond the last column are left
+-- out.
 abbrev pub row_of : List Field → List (List ℕ) → List Value
 row_of [] fields = []
 row_of (column ∷ columns) [] = value.Null ∷ row_of columns []
@@ -43,7 +46,8 @@ pub record IsRefused (bytes : List ℕ) : Type 0 where
   pub reached : Reached file_config st.StartRecord (strip_bom bytes) (before ++ fields ∷ []) state rest
   pub no_text : ¬ (AllText fields)
 
--- An error of the reader refuses the file, but for want of memory, and but for a failure of what lies below the reader, which bytes in memory never give.
+-- An error of the reader refuses the file, but for want of memory, and but for a failure of what lies below the
+-- reader, which bytes in memory never give.
 abbrev pub fail_of : ErrorKind → TableFail
 fail_of (kind.Io error) = fail.Memory
 fail_of kind.OutOfMemory = fail.Memory
@@ -56,6 +60,11 @@ fail_of (kind.Deserialize position error) = fail.Refused
 unfoldable pub AreShort : List (List ℕ) → Type 0
 AreShort [] = ⊤
 AreShort (field ∷ fields) = (length field ≤ text_limit) × AreShort fields
+
+-- each record is text
+unfoldable pub AreTexts : List (List (List ℕ)) → Type 0
+AreTexts [] = ⊤
+AreTexts (fields ∷ others) = AllText fields × AreTexts others
 
 -- the value of a field that may be missing
 abbrev pub cell_value : SqlType → Option (List ℕ) → Value

@@ -64,8 +64,9 @@ fn fault_line(alloc: Global, status: Status, place: &FaultPlace) -> Result<Vec<u
     Ok(line)
 }
 
-/// Writes the fault line of a run that did not end well: `aqe: `, the status's name, and the path where there
-/// is one, and under it how to call the program, where its words were not taken. A failing sink changes nothing.
+/// Writes the fault line of a run that did not end well: `aqe: `, the status's name, and the path
+/// where there is one. Where the words were not taken it tells how to call the program, too.
+/// A failing sink changes nothing.
 pub fn report<E: Sink>(alloc: Global, err: &mut E, status: Status, place: &FaultPlace) {
     if status == Status::Done {
         return;

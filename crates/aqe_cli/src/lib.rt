@@ -2,12 +2,14 @@
 #![tactic(auto)]
 
 mod fault;
+mod laws;
 mod run;
 mod script;
 mod table;
 mod text;
 mod words;
 
+pub use laws::{sources_make_one_table, texts_tell_rows};
 pub use run::run_words;
 pub use text::result_text;
 

@@ -1,6 +1,7 @@
 //! One run of the program, from its words to its status.
 
-ghost use Rattle.std.specs.Prelude.{◌≡◌, ◌≢◌, ◌⊎◌, ◌↔◌, ◌∷◌, ◌++◌, ◌≤◌, ℕ, List, Some, Ok, Err, length, map, string_bytes, [], filter, IsTrue, IfErr, IfOk, MatchOption};
+ghost use Rattle.std.specs.Prelude.{◌≡◌, ◌≢◌, ◌⊎◌, ◌↔◌, ◌∷◌, ◌++◌, ◌≤◌, ℕ, List, [], Some, Ok, Err};
+ghost use Rattle.std.specs.Prelude.{length, filter, map, string_bytes, IsTrue, IfErr, IfOk, MatchOption};
 ghost use Rattle.std.specs.List.{list_all};
 ghost use Rattle.std.specs.Io.KnownBytes.{Appends};
 ghost use Rattle.aqe_base.specs.declared.status.Status.TheVariants as status;
@@ -10,7 +11,9 @@ ghost use Rattle.aqe_store.specs.Told.{KeepsFiles, WhereTold};
 ghost use Rattle.aqe_store.specs.Causes.{Rose};
 ghost use Rattle.aqe_store.specs.Reading.{IsLonger};
 ghost use Rattle.aqe_store.specs.Sink.{AppendsFront};
-ghost use Rattle.aqe_cli.specs.Run.{ComesToTable, HasNoRowsYet, HasOneFile, HasRows, IsMisused, IsMissing, IsNotBuilt, IsExcuse, Prints, is_answer, is_data_name as is_data_name_text, is_plain as is_plain_byte};
+ghost use Rattle.aqe_cli.specs.Run.{ComesToTable, HasNoRowsYet, HasOneFile, HasRows, Prints};
+ghost use Rattle.aqe_cli.specs.Run.{IsAccepted, IsExcuse, IsMisused, IsMissing, IsNotBuilt, is_answer};
+ghost use Rattle.aqe_cli.specs.Run.{is_data_name as is_data_name_text, is_plain as is_plain_byte};
 ghost use Rattle.aqe_cli.specs.Steps.{IsStep};
 
 use crate::fault::{FaultPlace, report};
@@ -72,7 +75,7 @@ fn is_plain(bytes: &[u8]) -> bool
         .all(|byte| *byte <= b'~' && *byte != b'"' && *byte != b'\\')
 }
 
-/// The one name among these that a data file has. There is none where no name or more than one is such.
+/// The one name among these that a data file has, or none where not exactly one is such.
 fn only_data_name(names: &[Name]) -> Option<&Name>
     ensures { MatchOption result
         (length (filter is_data_name_text names.now) ≢ 1)
@@ -230,11 +233,12 @@ fn ended<E: Sink>(alloc: Global, err: &mut E, end: Status, place: &FaultPlace) -
     end
 }
 
-/// Runs the program on its words, those after the program's name: reads the script, reads the table's file,
-/// and writes the table's rows to `out`.
+/// Runs the program on its words, those after the program's name: reads the script, reads the
+/// table's file, and writes the table's rows to `out`.
 ///
-/// The text is made whole before its first byte is written. Where the run does not end well, one line on `err`
-/// tells why; a failing `err` changes nothing. Clauses on content speak where the store, or `out`, tells it.
+/// The text is made whole before its first byte is written. Where the run does not end well, one
+/// line on `err` tells why; a failing `err` changes nothing. Clauses on content speak where the
+/// store, or `out`, tells it.
 pub fn run_words<S: Store, O: Sink, E: Sink>(
     alloc: Global,
     words: &[String],
@@ -249,13 +253,16 @@ pub fn run_words<S: Store, O: Sink, E: Sink>(
 
     // Each refusal has its cause.
     ensures usage { result ≡ status.Usage ↔ IsMisused (map string_bytes words.now) }
-    ensures not_built { result ≡ status.NotBuilt
-        → WhereTold (S.files store.old) (λ files. IsNotBuilt files (map string_bytes words.now)) }
-    ensures missing { result ≡ status.Missing
-        → WhereTold (S.files store.old) (λ files. IsMissing files (map string_bytes words.now)) }
-    ensures missed { result ≡ status.Missing → Rose (S.misses store.old) (S.misses store.new) }
-    ensures read_fault { result ≡ status.ReadFault → Rose (S.faults store.old) (S.faults store.new) }
-    ensures write_fault { result ≡ status.WriteFault → Rose (O.faults out.old) (O.faults out.new) }
+    ensures not_built { result ≡ status.NotBuilt → WhereTold (S.files store.old)
+        (λ files. IsNotBuilt files (map string_bytes words.now)) }
+    ensures missing { result ≡ status.Missing → WhereTold (S.files store.old)
+        (λ files. IsMissing files (map string_bytes words.now)) }
+    ensures missed { result ≡ status.Missing
+        → Rose (S.misses store.old) (S.misses store.new) }
+    ensures read_fault { result ≡ status.ReadFault
+        → Rose (S.faults store.old) (S.faults store.new) }
+    ensures write_fault { result ≡ status.WriteFault
+        → Rose (O.faults out.old) (O.faults out.new) }
     ensures named { IsTrue (is_answer result) }
 
     // What a refusal leaves: after a failed write a front of the text, and else nothing.
@@ -266,11 +273,19 @@ pub fn run_words<S: Store, O: Sink, E: Sink>(
         → O.taken out.new ≡ O.taken out.old }
     ensures keeps { KeepsFiles (S.files store.old) (S.files store.new) }
 
+    // Where a cause holds, its answer comes, unless a failure or want of memory came first.
+    ensures not_built_always { WhereTold (S.files store.old) (λ files.
+        IsNotBuilt files (map string_bytes words.now)
+        → (result ≡ status.NotBuilt) ⊎ IsExcuse result) }
+    ensures missing_always { WhereTold (S.files store.old) (λ files.
+        IsMissing files (map string_bytes words.now)
+        → (result ≡ status.Missing) ⊎ IsExcuse result) }
+
     // Where no cause holds and nothing fails, the run is carried out or memory is wanting.
     ensures completes { WhereTold (S.files store.old) (λ files.
-        ¬ (IsMisused (map string_bytes words.now)) → ¬ (IsMissing files (map string_bytes words.now))
-        → ¬ (IsNotBuilt files (map string_bytes words.now))
-        → ¬ (Rose (S.faults store.old) (S.faults store.new)) → ¬ (Rose (O.faults out.old) (O.faults out.new))
+        IsAccepted files (map string_bytes words.now)
+        → ¬ (Rose (S.faults store.old) (S.faults store.new))
+        → ¬ (Rose (O.faults out.old) (O.faults out.new))
         → (result ≡ status.Done) ⊎ (result ≡ status.Memory)) }
 {
     let mut place = FaultPlace::new(alloc);

@@ -96,7 +96,7 @@ fn until(text: &[u8], end: u8) -> Option<(&[u8], &[u8])>
     Some((&text[..at], &text[at + 1..]))
 }
 
-/// What stands behind a word that stands in front, up to the first byte of a kind, and what follows that byte.
+/// What stands behind a word in front, up to the first byte of a kind, and what follows that byte.
 fn field_after<'a>(text: &'a [u8], word: &[u8], end: u8) -> Option<(&'a [u8], &'a [u8])>
     ensures { MatchOption result
         ((field rest : List ℕ) → text.now ≢ word.now ++ (field ++ end ∷ rest))
@@ -279,7 +279,7 @@ fn are_distinct(columns: &[Field]) -> bool
     true
 }
 
-/// Whether the name and the path may stand where they do, and the query shows the table of that name.
+/// Whether the name and the path may stand there, and the query shows the table of that name.
 fn are_sound(name: &[u8], location: &[u8], query: &[u8]) -> bool
     ensures { IsTrue result ↔ AreSound name.now location.now query.now }
 {

@@ -133,6 +133,7 @@ pub fn read_rows(alloc: Global, columns: &[Field], bytes: &[u8]) -> Result<Rows,
     requires size { length bytes.now ≤ text_limit }
     ensures rows { IfOk result (λ rows. rows ≡ file_rows columns.now bytes.now) }
     ensures refused { result ≡ Err fail.Refused → IsRefused bytes.now }
+    ensures taken { OnOk result (¬ (IsRefused bytes.now)) }
 {
     let mut reader = ReaderBuilder::new()
         .has_headers(false)

@@ -138,8 +138,9 @@ fn push_header(text: &mut Vec<u8>, columns: &[Field]) -> Result<(), AllocError>
 
 /// The printed form of rows under the columns of their schema.
 ///
-/// Fields stand between tabs. In names and texts a backslash, a tab, a line feed and a carriage return are
-/// printed as a backslash and a character, and NULL as a backslash and `N`, so that each line is one row.
+/// Fields stand between tabs. In names and texts a backslash, a tab, a line feed and a carriage
+/// return are printed as a backslash and a character, and NULL as a backslash and `N`, so that
+/// each line is one row.
 pub fn result_text(alloc: Global, schema: &Schema, rows: &Rows) -> Result<Bytes, Memory>
     ensures { IfOk result (λ text. text ≡ printed_result schema.now rows.now) }
 {

@@ -21,7 +21,7 @@ returns-in-Ok-clause-rows g c =
     c.data_path.ensures.step.keeps (rw c.as_str.ensures.value at c.in_ok-path.ensures.found) c.as_str-2.ensures.value c.in_ok-bytes.ensures.content in
     rows_told (g.S.Store.files c.args.store.now) c.args.form.now c.in_ok-bytes.bytes c.in-Ok.rows bytes c.in_ok-bytes.ensures.bound
     (rw (← c.slice.ensures) (sym c.is_plain.ensures ∙ c.if-not-is_plain.false))
-    (rw (← c.slice-2.ensures, ← c.slice-3.ensures) c.in-Ok.ensures.rows)
+    (rw (← c.slice-3.ensures) c.in-Ok.ensures.taken) (rw (← c.slice-2.ensures, ← c.slice-3.ensures) c.in-Ok.ensures.rows)
 
 pub returns-in-Err-Refused-clause-not_built : goal.returns-in-Err-Refused-clause-not_built
 returns-in-Err-Refused-clause-not_built g c e =

@@ -4,12 +4,12 @@ use Rattle.csv.specs.Reading.{Reached, strip_bom}
 use Rattle.csv.specs.Records.{fields_of}
 use Rattle.csv.specs.declared.parser.State.TheVariants as st
 use Rattle.csv.proofs.ReadFacts.{rows-end, rows-more}
-use Rattle.aqe_cli.specs.Table.{file_config, row_of}
-use Rattle.aqe_cli.proofs.RecordFacts.{fields_short, records_reached, refused_cause}
+use Rattle.aqe_cli.specs.Table.{AreTexts, file_config, row_of}
+use Rattle.aqe_cli.proofs.RecordFacts.{all_taken, fields_short, records_reached, refused_cause, texts_more}
 use Rattle.aqe_cli.proofs.table.read_rows.Goals as goal
 
 pub records-init : goal.records-init
-unfolding Reached
+unfolding Reached AreTexts
 records-init c =
     let fr = c.from_reader-reader.ensures in (
       fr.trim ∙ search rules,
@@ -21,6 +21,7 @@ records-init c =
       strip_bom c.args.bytes.now,
       fr.source,
       (sym fr.state, refl),
+      tt,
     )
 
 pub add_row-requires-clause-short : goal.add_row-requires-clause-short
@@ -36,6 +37,13 @@ returns-in-Ok-false-clause-rows c =
     let none = rows-end (λ (s : Bor (List ℕ)). Some s.now) c.records.reader c.read_record.new.self _ file_config inv.6 inv.3 inv.7 r in
     let all = records_reached file_config (strip_bom c.args.bytes.now) inv.4 c.records.reader.state inv.6 inv.8 none in
     rw (inv.5, all) refl
+
+pub returns-in-Ok-false-clause-taken : goal.returns-in-Ok-false-clause-taken
+returns-in-Ok-false-clause-taken c =
+    let inv = c.records.invariant in
+    let r = rw c.in-Ok-false.field-0-test at (c.in-Ok-false.ensures.reads inv.0 inv.1) in
+    let none = rows-end (λ (s : Bor (List ℕ)). Some s.now) c.records.reader c.read_record.new.self _ file_config inv.6 inv.3 inv.7 r in
+    all_taken c.args.bytes.now inv.4 c.records.reader.state inv.6 inv.8 none inv.9
 
 pub returns-in-Err-clause-refused : goal.returns-in-Err-clause-refused
 returns-in-Err-clause-refused c e =
@@ -58,4 +66,5 @@ records-preserved c =
       m.0,
       m.1,
       m.2,
+      texts_more inv.4 (fields_of c.read_record.new.row) inv.9 (c.in-Ok-true.ensures.text inv.0),
     )

@@ -3,7 +3,7 @@ use Rattle.std.proofs.Common.{◌≡◌, ◌≤◌, ℕ, List, Some, map, length
 use Rattle.csv.specs.Reading.{Reached, Ready, source_of, strip_bom}
 use Rattle.csv.specs.declared.parser.State.TheVariants as st
 use Rattle.csv.specs.declared.reader.Trim.TheVariants as trim
-use Rattle.aqe_cli.specs.Table.{file_config, row_of}
+use Rattle.aqe_cli.specs.Table.{AreTexts, file_config, row_of}
 use Rattle.aqe_cli.proofs.table.read_rows.Given as goal
 
 abbrev pub invariant-records : goal.invariant-records
@@ -12,3 +12,4 @@ invariant-records l =
     × (read : List (List (List ℕ))) × (l.rows ≡ map (row_of l.columns) read)
     × (left : List ℕ) × (source_of (λ s. Some s.now) l.reader ≡ Some left)
     × Reached file_config st.StartRecord (strip_bom l.bytes) read l.reader.state left
+    × AreTexts read
