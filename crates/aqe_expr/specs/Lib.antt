@@ -1,0 +1,10 @@
+pub mod Meaning
+pub mod Shapes
+pub mod Chains
+pub mod Columns
+pub mod Numbers
+pub mod Truths
+pub mod Patterns
+pub mod Casts
+pub mod Seen
+pub mod Laying

@@ -1,0 +1,11 @@
+pub mod Rearranged
+pub mod Rows
+pub mod Ways
+pub mod Joined
+pub mod Calls
+pub mod Grouped
+pub mod Agree
+pub mod Widths
+pub mod Shapes
+pub mod Schemas
+pub mod KnownAnswers
