@@ -1,0 +1,36 @@
+//! The reader of expressions: from terminals to the tree that they spell, proved against the grammar in both directions.
+#![tactic(auto)]
+
+ghost use Rattle.std.specs.Prelude.{MatchResult};
+ghost use Rattle.aqe_trees.specs.Expressions.{IsOr, IsList};
+ghost use Rattle.aqe_reader.specs.Reading.{Read, Refuses, IsRefusal};
+
+use aqe_trees::{OrTree, Terminal};
+use sqlite_items::Items;
+use std::alloc::Global;
+
+pub mod cursor;
+mod fault;
+
+pub use fault::ReadFault;
+
+/// The expression at the front of the terminals, and what stands behind it.
+pub fn expression(alloc: Global, terminals: &[Terminal]) -> Result<(OrTree, &[Terminal]), ReadFault>
+    ensures { MatchResult result
+        (λ x. Read IsOr 14 terminals.now x.0 x.1.now)
+        (λ e. IsRefusal e → Refuses IsOr 14 terminals.now) }
+{
+    Err(ReadFault::Memory)
+}
+
+/// The expressions with commas between them at the front of the terminals, and what stands behind them.
+pub fn expressions(
+    alloc: Global,
+    terminals: &[Terminal],
+) -> Result<(Items<OrTree>, &[Terminal]), ReadFault>
+    ensures { MatchResult result
+        (λ x. Read IsList 9 terminals.now x.0 x.1.now)
+        (λ e. IsRefusal e → Refuses IsList 9 terminals.now) }
+{
+    Err(ReadFault::Memory)
+}
