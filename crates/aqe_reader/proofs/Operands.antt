@@ -1,6 +1,6 @@
 -- Readings of operands.
-use Rattle.std.proofs.Common.{ℕ, List, [], ◌∷◌, ◌≡◌, ◌<◌, ◌≤◌, length, refl, sym, ap, subst, arith, lit<}
-use Rattle.std.specs.Prelude.{Bool, true, false, Some, None}
+use Rattle.std.proofs.Common.{ℕ, List, ◌∷◌, ◌≡◌, ◌≤◌, length, refl, sym, ap, subst, arith, lit<}
+use Rattle.std.specs.Prelude.{Bool, true, false, Some}
 use Rattle.aqe_values.specs.declared.sql_type.SqlType.{SqlType}
 use Rattle.aqe_trees.specs.declared.terminal.Key.{Key}
 use Rattle.aqe_trees.specs.declared.terminal.Key.TheVariants as k

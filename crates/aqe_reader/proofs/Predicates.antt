@@ -1,5 +1,5 @@
 -- Readers of what a predicate asks of its value.
-use Rattle.std.proofs.Common.{ℕ, List, [], ◌∷◌, ◌≡◌, ◌<◌, ◌≤◌, length, refl, sym, ap, subst, arith, lit<}
+use Rattle.std.proofs.Common.{List, ◌∷◌, ◌≡◌, ◌≤◌, length, refl, sym, ap, subst, arith, lit<}
 use Rattle.std.specs.Prelude.{Bool, true, false, Some, None}
 use Rattle.aqe_trees.specs.declared.terminal.Key.{Key}
 use Rattle.aqe_trees.specs.declared.terminal.Key.TheVariants as k

@@ -1,6 +1,6 @@
 -- Runs of NOT and of signs, and what stands behind them.
-use Rattle.std.proofs.Common.{ℕ, List, [], ◌∷◌, ◌++◌, ◌≡◌, ◌+◌, ◌<◌, ◌≤◌, length, refl, sym, ap, subst, arith}
-use Rattle.std.specs.Prelude.{Some, None, suc, zero}
+use Rattle.std.proofs.Common.{ℕ, List, [], ◌∷◌, ◌++◌, ◌≡◌, ◌+◌, length, refl, sym, ap, subst, arith}
+use Rattle.std.specs.Prelude.{Some, None, suc}
 use Rattle.std.proofs.lemmas.List.{append_assoc, append-nil}
 use Rattle.aqe_trees.specs.declared.terminal.Key.TheVariants as k
 use Rattle.aqe_trees.specs.declared.terminal.Terminal.{Terminal}
