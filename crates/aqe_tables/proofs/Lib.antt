@@ -1,3 +1,4 @@
 pub mod FieldFacts
 pub mod RecordFacts
 pub mod RowFacts
+pub mod NameFacts
