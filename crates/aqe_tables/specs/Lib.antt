@@ -3,3 +3,7 @@ pub mod FileRows
 pub mod Options
 pub mod Widths
 pub mod Catalog
+pub mod Folder
+pub mod Load
+pub mod Steps
+pub mod Loaded

@@ -3,11 +3,18 @@
 
 mod catalog;
 mod columns;
+mod fault;
 mod field;
+mod folder;
 mod form;
+mod load;
+mod loaded;
 mod options;
 mod records;
+mod tables;
 
 pub use catalog::{Catalog, CatalogTable, CreateFault};
+pub use fault::LoadFault;
 pub use form::FileForm;
-pub use records::{FileFail, read_rows};
+pub use loaded::Table;
+pub use tables::Tables;
