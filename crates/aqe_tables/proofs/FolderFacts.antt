@@ -1,6 +1,6 @@
 -- The names of data files, in byte order.
-use Rattle.std.proofs.Common.{◌≡◌, ◌≢◌, ◌↔◌, ℕ, zero, suc, ◌+◌, ◌<◌, ◌≤◌, List, [], ◌∷◌, ◌++◌, length, refl, ap, sym, arith, ◌∙◌, Bool, true, false, Contains, IsTrue, Option, Some, None, get_or, filter, cond}
-use Rattle.std.specs.Prelude.{AllPairs, IsSome, map}
+use Rattle.std.proofs.Common.{◌≡◌, ◌≢◌, ◌↔◌, ℕ, zero, suc, ◌<◌, List, [], ◌∷◌, length, refl, ap, sym, arith, ◌∙◌, Bool, true, false, Contains, Option, Some, None, get_or, filter, cond}
+use Rattle.std.specs.Prelude.{AllPairs, IsSome}
 use Rattle.std.specs.Bool.{Decides}
 use Rattle.std.specs.Cmp.Lexicographic.{slice_cmp}
 use Rattle.std.specs.List.Sorted.{IsPermutation, IsSorted}
@@ -16,12 +16,12 @@ use Rattle.std.proofs.lemmas.Map.Keys.{IsDistinct-IsPermutation}
 use Rattle.std.proofs.lemmas.Map.Made.{AllPairs-from_IsDistinct, IsDistinct-from_AllPairs}
 use Rattle.std.proofs.lemmas.Map.Text.{is_eq-slice_cmp}
 use Rattle.std.proofs.lemmas.Slice.Eq.{bytes_eq-Decides}
-use Rattle.aqe_store.specs.Files.{Entries, IsFileOf, IsFolder, IsHeld, IsListing, content_of}
+use Rattle.aqe_store.specs.Files.{Entries, IsHeld, IsListing, content_of}
 use Rattle.aqe_store.specs.Told.{WhereTold}
 use Rattle.aqe_tables.specs.declared.fault.LoadFault.{LoadFault}
 use Rattle.aqe_tables.specs.declared.fault.LoadFault.TheVariants as fault
-use Rattle.aqe_tables.specs.Folder.{AreDataNames, AreHeld, DataFile, IsBefore, IsDataFile, is_data_name, names_of, path_of}
-use Rattle.aqe_tables.specs.Load.{HasManyFiles, files_limit}
+use Rattle.aqe_tables.specs.Folder.{AreDataNames, DataFile, IsBefore, IsDataFile, is_data_name, names_of, path_of}
+use Rattle.aqe_tables.specs.Load.{files_limit}
 use Rattle.aqe_tables.specs.Steps.{FolderCause, HaveNames}
 
 here : (x : List ℕ) (xs : List (List ℕ)) → Contains (x ∷ xs) x

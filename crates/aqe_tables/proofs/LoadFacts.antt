@@ -1,6 +1,6 @@
 -- Files read one after the other.
-use Rattle.std.proofs.Common.{◌≡◌, ◌≢◌, ℕ, zero, suc, ◌+◌, ◌<◌, ◌≤◌, List, [], ◌∷◌, ◌++◌, length, take, drop, get_or, refl, ap, sym, arith, ◌∙◌, Option, Some, None, add_assoc, drop-cons, length-append, zero-add}
-use Rattle.std.specs.Prelude.{All, map, sum_by}
+use Rattle.std.proofs.Common.{◌≡◌, ℕ, zero, suc, ◌+◌, ◌<◌, ◌≤◌, List, [], ◌∷◌, ◌++◌, length, take, drop, get_or, refl, ap, sym, arith, ◌∙◌, Option, Some, None, drop-cons, zero-add}
+use Rattle.std.specs.Prelude.{All, map}
 use Rattle.std.proofs.Common.{subst}
 use Rattle.std.proofs.lemmas.List.Sums.{sum_by-append, sum_by-cons}
 use Rattle.std.proofs.lemmas.List.{map-append, take-append-drop, take_more}
@@ -11,11 +11,10 @@ use Rattle.aqe_store.specs.Told.{KeepsFiles, WhereTold}
 use Rattle.aqe_tables.specs.declared.catalog.CatalogTable.{CatalogTable}
 use Rattle.aqe_tables.specs.declared.fault.LoadFault.{LoadFault}
 use Rattle.aqe_tables.specs.declared.fault.LoadFault.TheVariants as fault
-use Rattle.aqe_tables.specs.declared.form.FileForm.{FileForm}
 use Rattle.aqe_tables.specs.declared.load.LoadedFile.{LoadedFile}
 use Rattle.aqe_tables.specs.declared.loaded.Table.{Table}
 use Rattle.aqe_tables.specs.FileRows.{file_rows, row_of}
-use Rattle.aqe_tables.specs.Folder.{AreDataNames, AreHeld, DataFile, bytes_of, names_of, path_of}
+use Rattle.aqe_tables.specs.Folder.{AreDataNames, DataFile, bytes_of, names_of, path_of}
 use Rattle.aqe_tables.specs.Load.{AreGood, AreWide, FileCause, HasBadFile, IsGood, IsShaped, IsTableOf, LoadCause, StopsAt, files_limit, or_one_empty}
 use Rattle.aqe_tables.specs.Steps.{AreRead, FilesCause, FolderCause, HaveNames, IsRead, NotRead, NotReadCause, ReadUpTo, StopCause}
 use Rattle.aqe_tables.proofs.FolderFacts.{contents}

@@ -1,12 +1,11 @@
 -- Slots of tables.
-use Rattle.std.proofs.Common.{◌≡◌, ◌≢◌, ℕ, zero, suc, ◌+◌, ◌<◌, ◌≤◌, List, [], ◌∷◌, ◌++◌, length, get_or, set, take, refl, ap, sym, arith, ◌∙◌, Option, Some, None, subst, get_or-set_other, get_or-set_same}
+use Rattle.std.proofs.Common.{◌≡◌, ◌≢◌, ℕ, zero, suc, ◌+◌, ◌<◌, ◌≤◌, [], ◌∷◌, ◌++◌, length, get_or, set, take, refl, ap, arith, ◌∙◌, Option, Some, None, subst, get_or-set_other, get_or-set_same}
 use Rattle.std.specs.Prelude.{IfSome, replicate, slice_get}
 use Rattle.std.specs.List.{AppendsResults, FoldsTo}
-use Rattle.std.specs.Option.{is_some}
 use Rattle.std.proofs.lemmas.List.Elements.{All-append, All-replicate, All-set}
 use Rattle.std.proofs.lemmas.List.Folds.{sum_by-replicate}
 use Rattle.std.proofs.lemmas.List.Sums.{sum_by-append, sum_by-set}
-use Rattle.std.proofs.lemmas.Option.{get_or_from_slice_get, slice_get_past, slice_get_within}
+use Rattle.std.proofs.lemmas.Option.{get_or_from_slice_get}
 use Rattle.aqe_store.specs.Files.{Entries}
 use Rattle.aqe_store.specs.Told.{WhereTold}
 use Rattle.aqe_tables.specs.declared.catalog.CatalogTable.{CatalogTable}

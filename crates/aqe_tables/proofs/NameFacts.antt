@@ -88,7 +88,7 @@ one_more columns i x keys new key b l is all once e added some grown =
     let is_new : new ≡ keys ++ key ∷ [] = rw none at grown in
     let here : get_or columns i x ≡ x = sym is in
     let names : name_keys (take (i + 1) columns) ≡ name_keys (take i columns) ++ str_to_ascii_lowercase x.0 ∷ [] =
-        ap name_keys (take_more columns i x l) ∙ map-append (λ (column : List ℕ × SqlType). str_to_ascii_lowercase column.0) (take i columns) (get_or columns i x ∷ []) ∙ rw here refl in
+    ap name_keys (take_more columns i x l) ∙ map-append (λ (column : List ℕ × SqlType). str_to_ascii_lowercase column.0) (take i columns) (get_or columns i x ∷ []) ∙ rw here refl in
     (rw (names, ← all, ← e) is_new, rw is_new (new_key keys key once none))
   where
     flipped : (c : Bool) → true ≡ not c → c ≡ false

@@ -2,7 +2,7 @@
 use Rattle.std.proofs.Common.{◌≡◌, ℕ, zero, suc, ◌+◌, ◌≤◌, ◌<◌, List, [], ◌∷◌, ◌++◌, length, Bool, true, false, Option, Some, None, refl, sym, ap, arith, ◌∙◌, ◌==◌, ◌&&◌, length-append}
 use Rattle.std.specs.Prelude.{if◌then◌else◌, ⊤}
 use Rattle.csv.specs.Machine.{Read, step, in_field, start_field, start_record, ends_with, after_end, is_byte, ends_at_end, is_end, fields_after, field_after, next_record}
-use Rattle.csv.specs.Reading.{ExplainsRead, Reached, NextIs, ReadsNext, pending_of, records, records_from, records_next, source_of, strip_bom, is_bom}
+use Rattle.csv.specs.Reading.{ExplainsRead, Reached, NextIs, ReadsNext, pending_of, records, records_from, source_of, strip_bom, is_bom}
 use Rattle.csv.specs.Records.{AllText}
 use Rattle.csv.specs.declared.error.ErrorKind.{ErrorKind}
 use Rattle.csv.specs.declared.error.ErrorKind.TheVariants as kind

@@ -1,7 +1,7 @@
 -- The catalog: its tables in the order of their numbers, and what it refuses.
-use Rattle.std.specs.Prelude.{ℕ, Bool, true, false, List, [], ◌∷◌, ◌||◌, nat_lt, length, map, position, Option, None, Some, if◌then◌else◌}
+use Rattle.std.specs.Prelude.{ℕ, Bool, false, List, [], ◌∷◌, ◌||◌, nat_lt, length, map, position, Option, None, Some, if◌then◌else◌}
 use Rattle.std.specs.List.{list_any}
-use Rattle.std.specs.Option.{is_some, option_map}
+use Rattle.std.specs.Option.{is_some}
 use Rattle.std.specs.Str.{bytes_eq, str_eq_ignore_ascii_case, str_to_ascii_lowercase}
 use Rattle.aqe_values.specs.declared.schema.Field.{Field}
 use Rattle.aqe_values.specs.declared.sql_type.SqlType.{SqlType}
@@ -51,7 +51,7 @@ abbrev pub file_form : TableForm → FileForm
 file_form form = record {
   schema = map column_of form.columns;
   header = has_header form.options;
-  separator = separator_of form.options
+  separator = separator_of form.options;
 }
 
 -- what the catalog keeps of a table of this form

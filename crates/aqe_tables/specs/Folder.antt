@@ -1,5 +1,5 @@
 -- The data files of a folder.
-use Rattle.std.specs.Prelude.{◌≡◌, ◌↔◌, ◌==◌, ◌&&◌, ⊤, ℕ, Bool, true, false, not, List, [], ◌∷◌, ◌++◌, map, Some, IsTrue, Contains, AllPairs, sum_by, length}
+use Rattle.std.specs.Prelude.{◌≡◌, ◌↔◌, ◌==◌, ◌&&◌, ⊤, ℕ, Bool, true, not, List, [], ◌∷◌, ◌++◌, map, Some, IsTrue, Contains, AllPairs, sum_by, length}
 use Rattle.std.specs.Cmp.Lexicographic.{slice_cmp}
 use Rattle.std.specs.Ordering.{nat_cmp}
 use Rattle.std.specs.declared.cmp.Ordering.TheVariants.{Less}

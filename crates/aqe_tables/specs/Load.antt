@@ -1,17 +1,16 @@
 -- What the load of a table gives, and why it is refused.
-use Rattle.std.specs.Prelude.{◌≡◌, ◌<◌, ◌≤◌, ◌+◌, ◌==◌, ◌&&◌, ⊤, ℕ, Bool, true, false, not, nat_le, List, [], ◌∷◌, ◌++◌, length, map, Some, IsFalse, IsTrue, ◌⊎◌, All}
+use Rattle.std.specs.Prelude.{◌≡◌, ◌<◌, ◌≤◌, ◌+◌, ◌==◌, ◌&&◌, ⊤, ℕ, Bool, true, false, not, nat_le, List, [], ◌∷◌, ◌++◌, length, map, IsFalse, IsTrue, ◌⊎◌, All}
 use Rattle.std.specs.List.{list_all}
 use Rattle.aqe_values.specs.Bounds.{text_limit}
 use Rattle.aqe_values.specs.declared.value.Value.{Value}
-use Rattle.aqe_store.specs.Files.{Entries, IsFolder, IsHeld, content_of}
-use Rattle.aqe_store.specs.Reading.{IsLonger}
+use Rattle.aqe_store.specs.Files.{Entries, IsFolder}
 use Rattle.aqe_tables.specs.declared.catalog.CatalogTable.{CatalogTable}
 use Rattle.aqe_tables.specs.declared.fault.LoadFault.{LoadFault}
 use Rattle.aqe_tables.specs.declared.fault.LoadFault.TheVariants as fault
 use Rattle.aqe_tables.specs.declared.form.FileForm.{FileForm}
 use Rattle.aqe_tables.specs.declared.loaded.Table.{Table}
 use Rattle.aqe_tables.specs.FileRows.{IsRefused, file_rows}
-use Rattle.aqe_tables.specs.Folder.{AreDataFiles, AreDataNames, AreHeld, DataFile, bytes_of, names_of, path_of}
+use Rattle.aqe_tables.specs.Folder.{AreDataFiles, AreDataNames, DataFile, bytes_of}
 
 -- a table has at most so many data files, and all loaded tables together have at most so many bytes: 128 MiB
 abbrev pub files_limit : ℕ

@@ -1,5 +1,5 @@
 -- The loaded tables, by number.
-use Rattle.std.specs.Prelude.{◌≡◌, ◌≢◌, ◌≤◌, ◌++◌, ℕ, List, [], ◌∷◌, length, replicate, slice_get, slice_index_or, Option, None, Some, IsSome, IfSome, All, sum_by}
+use Rattle.std.specs.Prelude.{◌≡◌, ◌≢◌, ◌≤◌, ◌++◌, ℕ, List, length, replicate, slice_get, slice_index_or, Option, None, Some, IsSome, IfSome, All, sum_by}
 use Rattle.aqe_tables.specs.declared.catalog.CatalogTable.{CatalogTable}
 use Rattle.aqe_tables.specs.declared.loaded.Table.{Table}
 

@@ -1,5 +1,5 @@
 -- What the steps of a load leave of the store, and what they find.
-use Rattle.std.specs.Prelude.{◌≡◌, ◌≤◌, ◌+◌, ⊤, ℕ, List, [], ◌∷◌, length, map, take, Option, Result, Err, Some}
+use Rattle.std.specs.Prelude.{◌≡◌, ◌≤◌, ◌+◌, ⊤, ℕ, List, [], length, map, take, Option, Result, Err, Some}
 use Rattle.aqe_values.specs.Bounds.{text_limit}
 use Rattle.aqe_values.specs.declared.value.Value.{Value}
 use Rattle.aqe_store.specs.Causes.{Rose}

@@ -12,6 +12,8 @@ mod loaded;
 mod options;
 mod records;
 mod tables;
+#[cfg(test)]
+mod tests;
 
 pub use catalog::{Catalog, CatalogTable, CreateFault};
 pub use fault::LoadFault;

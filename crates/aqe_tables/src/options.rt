@@ -95,9 +95,7 @@ pub(crate) fn bad_key(options: &[(Text, Text)]) -> Option<&Text>
 pub(crate) fn has_header(options: &[(Text, Text)]) -> bool
     ensures { result ≡ has_header_of options.now }
 {
-    options
-        .iter()
-        .any(|option| is_header_key(option.0.as_str()) && is_true(option.1.as_str()))
+    options.iter().any(|option| is_header_key(option.0.as_str()) && is_true(option.1.as_str()))
 }
 
 fn first_byte(value: &str) -> u8

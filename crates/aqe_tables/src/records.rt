@@ -15,7 +15,7 @@ use std::alloc::Global;
 
 /// Why a file gives no rows.
 #[derive(Clone, Copy, Debug, PartialEq, Eq, Drop)]
-pub enum FileFail {
+pub(crate) enum FileFail {
     /// The reader of CSV refuses a record.
     Refused,
     /// An allocation failed.
@@ -77,7 +77,7 @@ fn fail_of(error: &Error) -> FileFail
 /// The rows of a file's records under the form of its table, as Spark reads a file of CSV.
 ///
 /// The records are read one after the other into the same room, and each row is made once.
-pub fn read_rows(alloc: Global, form: &FileForm, bytes: &[u8]) -> Result<Rows, FileFail>
+pub(crate) fn read_rows(alloc: Global, form: &FileForm, bytes: &[u8]) -> Result<Rows, FileFail>
     requires width { length form.now.schema ≤ row_limit }
     requires size { length bytes.now ≤ text_limit }
     ensures rows { IfOk result (λ rows. rows ≡ file_rows form.now bytes.now) }

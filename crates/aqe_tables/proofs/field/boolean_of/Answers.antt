@@ -1,5 +1,4 @@
 use Rattle.aqe_tables.proofs.FieldFacts.{is_false, is_neither, is_true}
-use Rattle.std.specs.Bool.{IsTrue}
 use Rattle.std.proofs.Common.{false, true, ◌≡◌, refl}
 use Rattle.aqe_tables.proofs.field.boolean_of.Goals as goal
 

@@ -1,4 +1,4 @@
-use Rattle.std.proofs.Common.{◌∙◌, ◌+◌, arith, ap, length, length-append}
+use Rattle.std.proofs.Common.{◌∙◌, arith, ap, length, length-append}
 use Rattle.std.proofs.lemmas.Result.{err_from_is_err_and}
 use Rattle.aqe_tables.proofs.LoadFacts.{keeps_through, read_more_told, stop_told, wide_more}
 use Rattle.aqe_tables.proofs.load.read_files.Goals as goal

@@ -15,5 +15,5 @@ invariant-files g l = record {
   count : length l.files ≡ l.name-index;
   wide : All (AreWide (length l.table.form.schema)) l.files;
   begun : l.before ≤ l.total;
-  room : l.total ≤ bytes_limit
+  room : l.total ≤ bytes_limit;
 }

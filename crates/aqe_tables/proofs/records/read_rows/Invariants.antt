@@ -1,5 +1,5 @@
 -- the records that were read are those reached in the file, and their rows are made
-use Rattle.std.proofs.Common.{◌≡◌, ◌≤◌, ℕ, List, Some, map, length, true}
+use Rattle.std.proofs.Common.{◌≡◌, ℕ, List, Some, map, true}
 use Rattle.csv.specs.Reading.{Reached, Ready, source_of, strip_bom}
 use Rattle.csv.specs.declared.parser.State.TheVariants as st
 use Rattle.csv.specs.declared.reader.Trim.TheVariants as trim
