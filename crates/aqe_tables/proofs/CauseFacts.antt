@@ -3,6 +3,7 @@ use Rattle.std.proofs.Common.{◌≡◌, ◌⊎◌, inl, inr, ℕ, Contains, ◌
 use Rattle.std.specs.Prelude.{IsFalse, nat_lt, if◌then◌else◌}
 use Rattle.std.proofs.lemmas.Bool.{le-ltb, lt-ltb}
 use Rattle.aqe_values.specs.Bounds.{text_limit}
+use Rattle.aqe_values.specs.declared.value.Value.{Value}
 use Rattle.aqe_store.specs.Files.{Entries, IsFolder}
 use Rattle.aqe_store.specs.Told.{WhereTold}
 use Rattle.aqe_tables.specs.declared.catalog.CatalogTable.{CatalogTable}
@@ -10,7 +11,8 @@ use Rattle.aqe_tables.specs.declared.fault.LoadFault.{LoadFault}
 use Rattle.aqe_tables.specs.declared.fault.LoadFault.TheVariants as fault
 use Rattle.aqe_tables.specs.declared.loaded.Table.{Table}
 use Rattle.aqe_tables.specs.Folder.{AreDataFiles, AreDataNames, DataFile, bytes_of, names_of}
-use Rattle.aqe_tables.specs.Load.{AreGood, FileCause, HasBadFile, HasManyFiles, HasNoCause, HasNoOtherCause, IsGood, IsTableOf, LoadCause, StopsAt, bytes_limit, files_limit, is_excuse}
+use Rattle.aqe_tables.specs.Load.{AreGood, FileCause, HasBadFile, HasManyFiles, HasNoCause, HasNoOtherCause, IsGood, IsTableOf, LoadCause, StopsAt, bytes_limit, files_limit, is_excuse, table_rows}
+use Rattle.aqe_tables.specs.Laws.{FilesMakeOneTable}
 use Rattle.aqe_tables.proofs.FolderFacts.{names_once, parts_once}
 use Rattle.aqe_tables.proofs.LoadFacts.{before_later, names_length}
 
@@ -163,3 +165,15 @@ only_told (Some files) table before given h = λ why excuse cause. by why excuse
     by : (why : LoadFault) → IsFalse (is_excuse why) → LoadCause files table before why → (b : Bool) → is_excuse given ≡ b → (given ≡ why) ⊎ IsTrue (is_excuse given)
     by why excuse cause true e = inr e
     by why excuse cause false e = inl (one_kind files table before given why (kind_of files table before given e h) (kind_of files table before why excuse cause))
+
+-- a table is its files and its bytes
+made : List (List (List Value)) → ℕ → Table
+made rows n = record { files = rows; bytes = n }
+
+pub one_table : FilesMakeOneTable
+unfolding made
+one_table files table m n a b h k =
+    let same = files_same files table.location h.parts k.parts h.are k.are in
+    let rows : a.files ≡ b.files = h.rows ∙ ap (table_rows table.form) same ∙ sym k.rows in
+    let bytes : a.bytes ≡ b.bytes = h.bytes ∙ ap bytes_of same ∙ sym k.bytes in
+    ap (λ (r : List (List (List Value))). made r a.bytes) rows ∙ ap (λ (i : ℕ). made b.files i) bytes

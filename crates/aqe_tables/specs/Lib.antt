@@ -7,3 +7,4 @@ pub mod Folder
 pub mod Load
 pub mod Steps
 pub mod Loaded
+pub mod Laws
