@@ -1,0 +1,10 @@
+pub mod Fields
+pub mod FileRows
+pub mod Options
+pub mod Widths
+pub mod Catalog
+pub mod Folder
+pub mod Load
+pub mod Steps
+pub mod Loaded
+pub mod Laws

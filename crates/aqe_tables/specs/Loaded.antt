@@ -1,0 +1,40 @@
+-- The loaded tables, by number.
+use Rattle.std.specs.Prelude.{◌≡◌, ◌≢◌, ◌≤◌, ◌++◌, ℕ, List, length, replicate, slice_get, slice_index_or, Option, None, Some, IsSome, IfSome, All, sum_by}
+use Rattle.aqe_tables.specs.declared.catalog.CatalogTable.{CatalogTable}
+use Rattle.aqe_tables.specs.declared.loaded.Table.{Table}
+
+-- each slot has the loaded table of its number, or none
+abbrev pub Slots : Type 0
+Slots = List (Option Table)
+
+-- the table of a number, if it is loaded
+abbrev pub table_at : Slots → ℕ → Option Table
+table_at slots n = slice_index_or slots n None
+
+abbrev pub IsLoaded : Slots → ℕ → Type 0
+IsLoaded slots n = IsSome (table_at slots n)
+
+-- the fact holds of the table of this number in the catalog, and of what is loaded of it
+abbrev pub WhereLoaded : List CatalogTable → Slots → ℕ → (CatalogTable → Table → Type 0) → Type 0
+WhereLoaded catalog slots n fact = IfSome (slice_get catalog n) (λ table. IfSome (table_at slots n) (λ loaded. fact table loaded))
+
+abbrev pub slot_bytes : Option Table → ℕ
+slot_bytes None = 0
+slot_bytes (Some table) = table.bytes
+
+-- the bytes of all loaded tables together
+abbrev pub all_bytes : Slots → ℕ
+all_bytes slots = sum_by slot_bytes slots
+
+-- the table of this number is loaded, and all others stay
+pub record Loads (old new : Slots) (n : ℕ) (table : Table) : Type 0 where
+  pub is : table_at new n ≡ Some table
+  pub others : (m : ℕ) → m ≢ n → table_at new m ≡ table_at old m
+
+-- no loaded table has more than 1,000 files
+abbrev pub AreSmall : Slots → Type 0
+AreSmall slots = All (λ slot. IfSome slot (λ table. length table.files ≤ 1000)) slots
+
+-- slots without a table are added
+abbrev pub Pads : Slots → Slots → Type 0
+Pads old new = (n : ℕ) × (new ≡ old ++ replicate n None)

@@ -1,0 +1,196 @@
+//! The files of a table read one after the other.
+
+ghost use Rattle.std.specs.Prelude.{◌≡◌, ◌≤◌, ◌+◌, length, IfOk, IfErr, OnOk};
+ghost use Rattle.std.specs.Prelude.{All, Some};
+ghost use Rattle.std.specs.List.{list_all};
+ghost use Rattle.aqe_values.specs.Bounds.{text_limit};
+ghost use Rattle.aqe_store.specs.Files.{content_of};
+ghost use Rattle.aqe_store.specs.Told.{WhereTold};
+ghost use Rattle.aqe_tables.specs.Catalog.{column_limit};
+ghost use Rattle.aqe_tables.specs.FileRows.{file_rows};
+ghost use Rattle.aqe_tables.specs.Load.{AreWide, IsGood, IsShaped, IsTableOf, LoadCause, bytes_limit, files_limit, is_plain as is_plain_byte, or_one_empty as or_one_empty_file};
+ghost use Rattle.aqe_tables.specs.Steps.{BytesCause, FilesCause, IsLoadStep, IsRead, NotRead, ReadUpTo, RowsCause};
+
+use crate::catalog::CatalogTable;
+use crate::fault::LoadFault;
+use crate::folder::{data_names, path_in};
+use crate::form::FileForm;
+use crate::loaded::Table;
+use crate::records::{FileFail, read_rows};
+use aqe_base::{Bytes, Listing, Memory};
+use aqe_store::{Name, ReadFail, Store, read_all};
+use aqe_values::Rows;
+use std::alloc::Global;
+
+/// The most bytes of a file.
+const FILE_LIMIT: u64 = 67108864;
+
+/// The most bytes of all loaded tables together.
+const BYTES_LIMIT: u64 = 134217728;
+
+/// A data file that was read: its rows and the number of its bytes.
+#[derive(Drop)]
+struct LoadedFile {
+    rows: Rows,
+    bytes: u64,
+}
+
+fn is_plain(bytes: &[u8]) -> bool
+    ensures { result ≡ list_all is_plain_byte bytes.now }
+{
+    bytes
+        .iter()
+        .all(|byte| *byte <= b'~' && *byte != b'"' && *byte != b'\\')
+}
+
+/// The bytes of a file.
+fn file_bytes<S: Store>(
+    alloc: Global,
+    store: &mut S,
+    path: &str,
+    name: &str,
+) -> Result<Bytes, LoadFault>
+    ensures content { IfOk result (λ bytes. WhereTold (S.files store.old)
+        (λ files. content_of files path.now ≡ Some bytes)) }
+    ensures bound { IfOk result (λ bytes. length bytes ≤ text_limit) }
+    ensures refused { IfErr result (λ why. WhereTold (S.files store.old)
+        (λ files. BytesCause files path.now name.now why)) }
+    ensures step { IsLoadStep (S.files store.old) (S.files store.new) (S.faults store.old)
+        (S.faults store.new) (S.misses store.old) (S.misses store.new) result }
+{
+    match read_all(alloc, store, path, FILE_LIMIT) {
+        Ok(bytes) => Ok(bytes),
+        Err(ReadFail::Failed) => Err(LoadFault::ReadFault),
+        Err(ReadFail::Missing) => Err(LoadFault::Missing),
+        Err(ReadFail::Memory) => Err(LoadFault::Memory),
+        Err(ReadFail::TooLong) => {
+            let file = Name::copy_of(alloc, name)?;
+            Err(LoadFault::TooLong { file })
+        }
+    }
+}
+
+/// The rows of a file's bytes, with so many bytes loaded before it.
+fn checked_rows(
+    alloc: Global,
+    form: &FileForm,
+    bytes: &[u8],
+    before: u64,
+) -> Result<Rows, LoadFault>
+    requires narrow { length form.now.schema ≤ column_limit }
+    requires fits { length bytes.now ≤ text_limit }
+    requires room { before ≤ bytes_limit }
+    ensures rows { IfOk result (λ rows. rows ≡ file_rows form.now bytes.now) }
+    ensures good { OnOk result (IsGood form.now.separator before bytes.now) }
+    ensures refused { IfErr result (λ why. RowsCause form.now.separator before bytes.now why) }
+{
+    if bytes.len() as u64 > BYTES_LIMIT - before {
+        return Err(LoadFault::TooManyBytes);
+    }
+    if !is_plain(bytes) {
+        return Err(LoadFault::NotBuilt);
+    }
+    match read_rows(alloc, form, bytes) {
+        Ok(rows) => Ok(rows),
+        Err(FileFail::Refused) => Err(LoadFault::NotBuilt),
+        Err(FileFail::Memory) => Err(LoadFault::Memory),
+    }
+}
+
+/// Reads a data file of the table, with so many bytes loaded before it.
+fn read_file<S: Store>(
+    alloc: Global,
+    store: &mut S,
+    table: &CatalogTable,
+    name: &Name,
+    before: u64,
+) -> Result<LoadedFile, LoadFault>
+    requires narrow { length table.now.form.schema ≤ column_limit }
+    requires room { before ≤ bytes_limit }
+    ensures read { IfOk result (λ file. WhereTold (S.files store.old)
+        (λ files. IsRead files table.now name.now before file)) }
+    ensures wide { IfOk result (λ file. AreWide (length table.now.form.schema) file.rows) }
+    ensures room { IfOk result (λ file. before + file.bytes ≤ bytes_limit) }
+    ensures refused { IfErr result (λ why. WhereTold (S.files store.old)
+        (λ files. NotRead files table.now name.now before why)) }
+    ensures step { IsLoadStep (S.files store.old) (S.files store.new) (S.faults store.old)
+        (S.faults store.new) (S.misses store.old) (S.misses store.new) result }
+{
+    let path = path_in(alloc, table.location.as_str(), name.as_str())?;
+    let bytes = file_bytes(alloc, store, path.as_str(), name.as_str())?;
+    let rows = checked_rows(alloc, &table.form, bytes.slice(), before)?;
+    Ok(LoadedFile {
+        rows,
+        bytes: bytes.len() as u64,
+    })
+}
+
+/// Reads the data files of these names, with so many bytes loaded before them.
+fn read_files<S: Store>(
+    alloc: Global,
+    store: &mut S,
+    table: &CatalogTable,
+    names: &[Name],
+    before: u64,
+) -> Result<Table, LoadFault>
+    requires narrow { length table.now.form.schema ≤ column_limit }
+    requires room { before ≤ bytes_limit }
+    ensures read { IfOk result (λ read. WhereTold (S.files store.old) (λ files. ReadUpTo files
+        table.now names.now before (length names.now) read.files (before + read.bytes))) }
+    ensures count { IfOk result (λ read. length read.files ≡ length names.now) }
+    ensures wide { IfOk result (λ read. All (AreWide (length table.now.form.schema)) read.files) }
+    ensures room { IfOk result (λ read. before + read.bytes ≤ bytes_limit) }
+    ensures refused { IfErr result (λ why. WhereTold (S.files store.old)
+        (λ files. FilesCause files table.now names.now before why)) }
+    ensures step { IsLoadStep (S.files store.old) (S.files store.new) (S.faults store.old)
+        (S.faults store.new) (S.misses store.old) (S.misses store.new) result }
+{
+    let mut files = Listing::new(alloc);
+    let mut total = before;
+    'files: for name in names {
+        let file = read_file(alloc, store, table, name, total)?;
+        total += file.bytes;
+        files.push(file.rows)?;
+    }
+    Ok(Table {
+        files,
+        bytes: total - before,
+    })
+}
+
+/// The files, or one empty file where there is none.
+fn or_one_empty(alloc: Global, mut files: Listing<Rows>) -> Result<Listing<Rows>, Memory>
+    ensures { IfOk result (λ all. all ≡ or_one_empty_file files) }
+{
+    if files.is_empty() {
+        files.push(Rows::new(alloc))?;
+    }
+    Ok(files)
+}
+
+/// Reads a table whose folder and files are as the catalog says, with so many bytes loaded before.
+pub(crate) fn read_table<S: Store>(
+    alloc: Global,
+    store: &mut S,
+    table: &CatalogTable,
+    before: u64,
+) -> Result<Table, LoadFault>
+    requires narrow { length table.now.form.schema ≤ column_limit }
+    requires room { before ≤ bytes_limit }
+    ensures table { IfOk result (λ loaded. WhereTold (S.files store.old)
+        (λ files. IsTableOf files table.now before loaded)) }
+    ensures shaped { IfOk result (λ loaded. IsShaped (length table.now.form.schema) loaded) }
+    ensures room { IfOk result (λ loaded. before + loaded.bytes ≤ bytes_limit) }
+    ensures refused { IfErr result (λ why. WhereTold (S.files store.old)
+        (λ files. LoadCause files table.now before why)) }
+    ensures step { IsLoadStep (S.files store.old) (S.files store.new) (S.faults store.old)
+        (S.faults store.new) (S.misses store.old) (S.misses store.new) result }
+{
+    let names = data_names(alloc, store, table.location.as_str())?;
+    let read = read_files(alloc, store, table, names.slice(), before)?;
+    let files = or_one_empty(alloc, read.files)?;
+    Ok(Table {
+        files,
+        bytes: read.bytes,
+    })
+}
