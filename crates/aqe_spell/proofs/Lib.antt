@@ -1,0 +1,6 @@
+pub mod Words
+pub mod Left
+pub mod Taken
+pub mod Leaves
+pub mod Chains
+pub mod Expressions

@@ -1,0 +1,8 @@
+//! The text of a script.
+#![tactic(auto)]
+
+mod expression;
+mod leaf;
+mod operator;
+mod parts;
+mod word;
