@@ -109,14 +109,9 @@ word_of (Literal text) = literal_text text
 word_of (Number value long) = decimal value ++ long_text long
 word_of Mixed = []
 
--- a statement ends its line
-abbrev pub gap_of : Terminal → ℕ
-gap_of (Fixed k.Semicolon) = 10
-gap_of _ = 32
-
--- each word with its blank
+-- a word with its blank
 abbrev pub spaced : Terminal → List ℕ
-spaced t = word_of t ++ gap_of t ∷ []
+spaced t = word_of t ++ 32 ∷ []
 
 -- all of them, in their order
 abbrev pub text_of : List Terminal → List ℕ

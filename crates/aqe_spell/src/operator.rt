@@ -4,12 +4,14 @@ ghost use Rattle.std.specs.Prelude.{◌≡◌, Some};
 ghost use Rattle.aqe_trees.specs.declared.terminal.Terminal.TheVariants.{Fixed};
 ghost use Rattle.aqe_trees.specs.Words.{compare_of, sum_of, product_of, truth_of};
 ghost use Rattle.aqe_spell.specs.Written as written;
+ghost use Rattle.aqe_spell.specs.Written.{Sound};
 
 use aqe_trees::{CompareOp, Key, ProductOp, Sign, Truth};
 
 /// The symbol of a comparison.
 pub(crate) fn compare_key(op: CompareOp) -> Key
-    ensures { compare_of (Fixed result) ≡ Some op }
+    ensures op { compare_of (Fixed result) ≡ Some op }
+    ensures sound { Sound (Fixed result) }
 {
     match op {
         CompareOp::Equal => Key::Equal,
@@ -24,7 +26,8 @@ pub(crate) fn compare_key(op: CompareOp) -> Key
 
 /// The symbol of a sign.
 pub(crate) fn sign_key(op: Sign) -> Key
-    ensures sums { sum_of (Fixed result) ≡ Some op }
+    ensures op { sum_of (Fixed result) ≡ Some op }
+    ensures sound { Sound (Fixed result) }
     ensures is { result ≡ written.sign_key op }
 {
     match op {
@@ -35,7 +38,8 @@ pub(crate) fn sign_key(op: Sign) -> Key
 
 /// The symbol or the word of an operator that binds as `*` does.
 pub(crate) fn product_key(op: ProductOp) -> Key
-    ensures { product_of (Fixed result) ≡ Some op }
+    ensures op { product_of (Fixed result) ≡ Some op }
+    ensures sound { Sound (Fixed result) }
 {
     match op {
         ProductOp::Times => Key::Star,
@@ -46,7 +50,8 @@ pub(crate) fn product_key(op: ProductOp) -> Key
 
 /// The word for what IS asks for.
 pub(crate) fn truth_key(truth: Truth) -> Key
-    ensures { truth_of (Fixed result) ≡ Some truth }
+    ensures truth { truth_of (Fixed result) ≡ Some truth }
+    ensures sound { Sound (Fixed result) }
 {
     match truth {
         Truth::Null => Key::Null,

@@ -6,7 +6,7 @@ ghost use Rattle.aqe_trees.specs.declared.terminal.Terminal.TheVariants.{Fixed, 
 ghost use Rattle.std.specs.List.{flat_map, list_all};
 ghost use Rattle.aqe_lexer.specs.Bytes as bytes;
 ghost use Rattle.aqe_spell.specs.Texts as texts;
-ghost use Rattle.aqe_spell.specs.Written.{Adds};
+ghost use Rattle.aqe_spell.specs.Written.{Adds, Sound};
 
 use aqe_lexer::is_reserved;
 use aqe_trees::Key;
@@ -85,23 +85,13 @@ fn key_text(key: Key) -> &'static str
     }
 }
 
-/// The blank behind a reserved word or a symbol: a statement ends its line.
-fn gap_of(key: Key) -> u8
-    ensures { result ≡ texts.gap_of (Fixed key) }
-{
-    match key {
-        Key::Semicolon => b'\n',
-        _ => b' ',
-    }
-}
-
-/// Writes a reserved word or a symbol.
-#[tactic(auto, using(crate::proofs::Words::adds_fixed))]
+/// Writes a reserved word or a symbol, other than the one that parts statements.
 pub(crate) fn fixed(out: &mut Vec<u8>, key: Key) -> Result<(), AllocError>
+    requires { Sound (Fixed key) }
     ensures { OnOk result (Adds (λ us. Fixed key ∷ us) out.old.items out.new.items) }
 {
     out.extend_from_slice(key_text(key).as_bytes())?;
-    out.push(gap_of(key))?;
+    out.push(b' ')?;
     Ok(())
 }
 
