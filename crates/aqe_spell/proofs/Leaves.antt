@@ -8,6 +8,7 @@ use Rattle.aqe_trees.specs.declared.terminal.Terminal.TheVariants.{Fixed, Name, 
 use Rattle.aqe_trees.specs.declared.expression.Test.TheVariants as test
 use Rattle.aqe_trees.specs.declared.expression.Truth.{Truth}
 use Rattle.aqe_trees.specs.declared.expression.Sign.{Sign}
+use Rattle.aqe_trees.specs.declared.expression.Sign.TheVariants as sign
 use Rattle.aqe_trees.specs.declared.expression.PrimaryTree.TheVariants as primary
 use Rattle.aqe_trees.specs.Expressions.{IsTest, is_truth, is_not_truth, IsPrimary, number, negative_number, literal, is_true, is_false, null, column, table_column, count_all}
 use Rattle.aqe_trees.specs.Words.{truth_of}
@@ -47,7 +48,8 @@ pub record SignsLeft (whole left : List Sign) (old new : List ℕ) : Type 0 wher
 
 signs_sound : (signs : List Sign) (us : List Terminal) → AllSound us → AllSound (signs_before signs us)
 signs_sound [] us s = s
-signs_sound (op ∷ signs) us s = (tt, signs_sound signs us s)
+signs_sound (sign.Plus ∷ signs) us s = (refl, signs_sound signs us s)
+signs_sound (sign.Minus ∷ signs) us s = (refl, signs_sound signs us s)
 
 pub signs_begin : {whole : List Sign} {old : List ℕ} → SignsLeft whole whole old old
 signs_begin = record { added = λ us. refl }

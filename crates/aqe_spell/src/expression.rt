@@ -236,10 +236,13 @@ fn case_of(out: &mut Vec<u8>, operand: &Option<Boxed<OrTree>>) -> Result<(), All
     ensures { OnOk result (Spelled IsCaseOf operand.now out.old.items out.new.items) }
 {
     fixed(out, Key::Case)?;
-    if let Some(operand) = operand {
-        or(out, operand.get())?;
+    match operand {
+        Some(value) => {
+            or(out, value.get())?;
+            Ok(())
+        }
+        None => Ok(()),
     }
-    Ok(())
 }
 
 /// Writes pairs of WHEN and THEN.
