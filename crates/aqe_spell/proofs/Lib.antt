@@ -1,6 +1,10 @@
 pub mod Words
 pub mod Left
+pub mod LeftQuery
 pub mod Taken
+pub mod TakenQuery
 pub mod Leaves
 pub mod Chains
 pub mod Expressions
+pub mod Queries
+pub mod Tables

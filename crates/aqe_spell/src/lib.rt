@@ -5,4 +5,7 @@ mod expression;
 mod leaf;
 mod operator;
 mod parts;
+mod query;
+mod query_leaf;
+mod table;
 mod word;
