@@ -8,3 +8,5 @@ pub mod Chains
 pub mod Expressions
 pub mod Queries
 pub mod Tables
+pub mod Cuts
+pub mod WordTokens
