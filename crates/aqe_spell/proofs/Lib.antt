@@ -10,3 +10,4 @@ pub mod Queries
 pub mod Tables
 pub mod Cuts
 pub mod WordTokens
+pub mod QuotedTokens

@@ -148,3 +148,40 @@ not_spelled (spelling ∷ more) text e =
       | true ↦ λ h. absurd cc
       | false ↦ λ h. not_spelled more text h
     ] e
+
+or_parts : (a b : Bool) → (a || b) ≡ false → (a ≡ false) × (b ≡ false)
+or_parts true b e = absurd cc
+or_parts false b e = (refl, e)
+
+not_true : (b : Bool) → not b ≡ true → b ≡ false
+not_true true e = absurd cc
+not_true false e = refl
+
+-- a word that is not reserved is no key
+not_reserved : (text : List ℕ) → words.is_reserved text ≡ false → word_key text ≡ None
+not_reserved text e =
+    let c = words.is_one_of words.clause_words text in let j = words.is_one_of words.join_words text in
+    let o = words.is_one_of words.sort_words text in let d = words.is_one_of words.condition_words text in
+    let x = words.is_one_of words.expression_words text in
+    let four = or_parts (c || j || o || d) x e in let three = or_parts (c || j || o) d four.0 in
+    let two = or_parts (c || j) o three.0 in let one = or_parts c j two.0 in
+    rw (not_spelled reserved.clause_words text one.0, not_spelled reserved.join_words text one.1, not_spelled reserved.sort_words text two.1,
+    not_spelled reserved.condition_words text three.1, not_spelled reserved.expression_words text four.1) refl
+
+pub name_gives : (text : List ℕ) → is_bare text ≡ true → Gives (text ++ 32 ∷ []) (IsOne (Name text false))
+name_gives text e source at rest d =
+    let first = and_parts (is_word_start (slice_index text 0) && list_all is_word_byte text) (not (words.is_reserved text)) e in
+    let second = and_parts (is_word_start (slice_index text 0)) (list_all is_word_byte text) first.0 in
+    let token = token_at kind.Word at (length text) in
+    let is = text_at source text (32 ∷ rest) kind.Word at (spaced_at source text rest at d) in
+    let key_is : key_of source token ≡ None = ap word_key is ∙ not_reserved text (not_true (words.is_reserved text) first.1) in
+    record {
+      tokens = token ∷ [];
+      wanted = record {
+        token = token;
+        alone = refl;
+        is = ap (λ o. fixed_or o (Name (text_of source token) false)) key_is ∙ ap (λ l. Name l false) is;
+        joins = ap parts key_is;
+      };
+      cut = λ more h. spaced_cut kind.Word text rest at more (word_begins text 32 rest second.0 second.1 refl) h;
+    }

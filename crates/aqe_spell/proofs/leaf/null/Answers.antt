@@ -1,4 +1,4 @@
-use Rattle.aqe_spell.proofs.WordTokens.{key_gives}
+use Rattle.aqe_spell.proofs.QuotedTokens.{literal_gives}
 use Rattle.aqe_spell.proofs.Leaves.{null_spelled}
 use Rattle.aqe_spell.proofs.leaf.null.Goals as goal
 
