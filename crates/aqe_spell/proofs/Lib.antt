@@ -11,3 +11,6 @@ pub mod Tables
 pub mod Cuts
 pub mod WordTokens
 pub mod QuotedTokens
+pub mod NumberTokens
+pub mod Utf8Texts
+pub mod TextTokens
