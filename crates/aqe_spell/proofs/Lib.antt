@@ -14,3 +14,6 @@ pub mod QuotedTokens
 pub mod NumberTokens
 pub mod Utf8Texts
 pub mod TextTokens
+pub mod Sources
+pub mod SettingTokens
+pub mod Scripts
