@@ -1,4 +1,4 @@
-//! The text of a script.
+//! The text of a script: what the reader reads back as the same script.
 #![tactic(auto)]
 
 mod expression;
@@ -7,5 +7,8 @@ mod operator;
 mod parts;
 mod query;
 mod query_leaf;
+mod statement;
 mod table;
 mod word;
+
+pub use statement::spell;
