@@ -3,6 +3,7 @@
 ghost use Rattle.std.specs.Prelude.{[], ◌∷◌, List, Option, OnOk};
 ghost use Rattle.aqe_trees.specs.declared.expression.OrTree.{OrTree};
 ghost use Rattle.aqe_trees.specs.declared.expression.Arm.{Arm};
+ghost use Rattle.aqe_trees.specs.declared.expression.PrimaryTree.TheVariants as primary;
 ghost use Rattle.aqe_trees.specs.Expressions.{IsOr, IsAnd, IsNot, IsPredicate, IsTest, IsList, IsComparison, IsSum, IsProduct, IsSign, IsPrimary, IsArms};
 ghost use Rattle.aqe_spell.specs.Written.{Spelled, Going, IsCaseOf};
 
@@ -20,6 +21,7 @@ use aqe_trees::{
     AndTree, Arm, ComparisonTree, Key, NotTree, OrTree, PredicateTree, PrimaryTree, ProductTree,
     SignTree, SumTree, Test,
 };
+use aqe_values::{SqlType, Text};
 use sqlite_items::Boxed;
 use std::alloc::AllocError;
 
@@ -192,18 +194,11 @@ fn primary(out: &mut Vec<u8>, tree: &PrimaryTree) -> Result<(), AllocError>
         PrimaryTree::Column(name) => column(out, name),
         PrimaryTree::TableColumn { table, name } => table_column(out, table, name),
         PrimaryTree::Paren(value) => {
-            fixed(out, Key::Open)?;
-            or(out, value.get())?;
-            fixed(out, Key::Close)?;
+            paren(out, value.get())?;
             Ok(())
         }
         PrimaryTree::Cast { value, kind } => {
-            fixed(out, Key::Cast)?;
-            fixed(out, Key::Open)?;
-            or(out, value.get())?;
-            fixed(out, Key::As)?;
-            type_word(out, *kind)?;
-            fixed(out, Key::Close)?;
+            cast(out, value.get(), *kind)?;
             Ok(())
         }
         PrimaryTree::Case {
@@ -221,13 +216,47 @@ fn primary(out: &mut Vec<u8>, tree: &PrimaryTree) -> Result<(), AllocError>
             name: called,
             arguments,
         } => {
-            name(out, called)?;
-            fixed(out, Key::Open)?;
-            list(out, arguments.as_slice())?;
-            fixed(out, Key::Close)?;
+            call(out, called, arguments.as_slice())?;
             Ok(())
         }
     }
+}
+
+/// Writes an expression between parentheses.
+#[cycle(expression)]
+fn paren(out: &mut Vec<u8>, inner: &OrTree) -> Result<(), AllocError>
+    ensures { OnOk result (Spelled IsPrimary (primary.Paren inner.now) out.old.items out.new.items) }
+{
+    fixed(out, Key::Open)?;
+    or(out, inner)?;
+    fixed(out, Key::Close)?;
+    Ok(())
+}
+
+/// Writes a CAST.
+#[cycle(expression)]
+fn cast(out: &mut Vec<u8>, value: &OrTree, kind: SqlType) -> Result<(), AllocError>
+    ensures { OnOk result (Spelled IsPrimary (primary.Cast value.now kind) out.old.items out.new.items) }
+{
+    fixed(out, Key::Cast)?;
+    fixed(out, Key::Open)?;
+    or(out, value)?;
+    fixed(out, Key::As)?;
+    type_word(out, kind)?;
+    fixed(out, Key::Close)?;
+    Ok(())
+}
+
+/// Writes a call.
+#[cycle(expression)]
+fn call(out: &mut Vec<u8>, called: &Text, arguments: &[OrTree]) -> Result<(), AllocError>
+    ensures { OnOk result (Spelled IsPrimary (primary.Call called.now arguments.now) out.old.items out.new.items) }
+{
+    name(out, called)?;
+    fixed(out, Key::Open)?;
+    list(out, arguments)?;
+    fixed(out, Key::Close)?;
+    Ok(())
 }
 
 /// Writes CASE and its operand.

@@ -100,14 +100,14 @@ predicate-returns t c = rw c.predicate_parts.ensures (predicate_spelled c.in_ok-
 pub signed-returns : goal.signed-returns
 signed-returns t c = rw c.sign_parts.ensures (sign_spelled c.in_ok-signs.ensures c.in_ok-primary.ensures)
 
-pub primary-returns-in_ok-fixed-in-Paren-2 : goal.primary-returns-in_ok-fixed-in-Paren-2
-primary-returns-in_ok-fixed-in-Paren-2 t c = rw (c.in-Paren.is, sym c.get.ensures) (paren_spelled c.in_ok-fixed-in-Paren.ensures c.in_ok-or-in-Paren.ensures c.in_ok-fixed-in-Paren-2.ensures)
-
-pub primary-returns-in_ok-fixed-in-Cast-4 : goal.primary-returns-in_ok-fixed-in-Cast-4
-primary-returns-in_ok-fixed-in-Cast-4 t c = rw (c.in-Cast.is, sym c.get-in-Cast.ensures) (cast_spelled c.in_ok-fixed-in-Cast.ensures c.in_ok-fixed-in-Cast-2.ensures c.in_ok-or-in-Cast.ensures c.in_ok-fixed-in-Cast-3.ensures c.in_ok-type_word-in-Cast.ensures c.in_ok-fixed-in-Cast-4.ensures)
-
 pub primary-returns-in_ok-case_end-in-Case : goal.primary-returns-in_ok-case_end-in-Case
 primary-returns-in_ok-case_end-in-Case t c = rw (c.in-Case.is, sym c.as_slice.ensures) (case_spelled c.in_ok-case_of-in-Case.ensures c.in_ok-arms-in-Case.ensures c.in_ok-case_end-in-Case.ensures)
 
-pub primary-returns-in_ok-fixed-in-Call-2 : goal.primary-returns-in_ok-fixed-in-Call-2
-primary-returns-in_ok-fixed-in-Call-2 t c = rw (c.in-Call.is, sym c.as_slice-in-Call.ensures) (call_spelled c.in_ok-name-in-Call.ensures c.in_ok-fixed-in-Call.ensures c.in_ok-list-in-Call.ensures c.in_ok-fixed-in-Call-2.ensures)
+pub paren-returns : goal.paren-returns
+paren-returns t c = paren_spelled c.in_ok-fixed.ensures c.in_ok-or.ensures c.in_ok-fixed-2.ensures
+
+pub cast-returns : goal.cast-returns
+cast-returns t c = cast_spelled c.in_ok-fixed.ensures c.in_ok-fixed-2.ensures c.in_ok-or.ensures c.in_ok-fixed-3.ensures c.in_ok-type_word.ensures c.in_ok-fixed-4.ensures
+
+pub call-returns : goal.call-returns
+call-returns t c = call_spelled c.in_ok-name.ensures c.in_ok-fixed.ensures c.in_ok-list.ensures c.in_ok-fixed-2.ensures
