@@ -1,7 +1,7 @@
 -- Lists that are written item by item.
 use Rattle.std.proofs.Common.{ℕ, ◌≡◌, ◌+◌, ◌<◌, List, [], ◌∷◌, length, drop, get_or, subst, sym, ◌∙◌, ap}
 use Rattle.aqe_trees.specs.declared.terminal.Terminal.{Terminal}
-use Rattle.aqe_spell.specs.Written.{AllStand, Adds, Gone, Going}
+use Rattle.aqe_spell.specs.Written.{Going}
 use Rattle.aqe_spell.proofs.Leaves.{adds_then, adds_none, from_next}
 
 pub going_begin : {X : Type 0} {Is : List X → List Terminal → List Terminal → Type 0} {whole : List X} {old : List ℕ}

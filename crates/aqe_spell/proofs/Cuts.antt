@@ -1,13 +1,11 @@
 -- A token that a text begins with, and words.
-use Rattle.std.proofs.Common.{ℕ, zero, suc, ◌≡◌, ◌<◌, ◌≤◌, ◌+◌, ◌-◌, ◌==◌, Bool, true, false, List, [], ◌∷◌, ◌++◌, length, drop, take, refl, sym, subst, ap, ◌∙◌, append_assoc, arith}
-use Rattle.std.specs.Prelude.{slice_index, slice_range}
+use Rattle.std.proofs.Common.{ℕ, ◌≡◌, ◌+◌, ◌-◌, Bool, true, false, List, [], ◌∷◌, ◌++◌, length, drop, take, refl, sym, subst, ap, ◌∙◌, arith}
+use Rattle.std.specs.Prelude.{slice_index}
 use Rattle.std.specs.List.{prefix_len, list_all}
 use Rattle.std.proofs.lemmas.Bool.{and_parts}
 use Rattle.std.proofs.lemmas.Bool.Decides.{nat_tests}
 use Rattle.std.proofs.lemmas.List.{take_at, drop_at, drop-drop}
-use Rattle.aqe_lexer.specs.declared.front.Front.{Front}
 use Rattle.aqe_lexer.specs.declared.front.Front.TheVariants as front
-use Rattle.aqe_lexer.specs.declared.piece.Piece.{Piece}
 use Rattle.aqe_lexer.specs.declared.piece.Piece.TheVariants as piece
 use Rattle.aqe_lexer.specs.declared.token.Token.{Token}
 use Rattle.aqe_lexer.specs.declared.token.TokenKind.{TokenKind}
@@ -16,7 +14,7 @@ use Rattle.aqe_lexer.specs.Bytes.{front_of, is_word_byte, is_word_start}
 use Rattle.aqe_lexer.specs.Content.{text_of, content_of}
 use Rattle.aqe_lexer.specs.Pieces.{Begins, Fits}
 use Rattle.aqe_lexer.specs.TokenList.{HasTokens, token_at}
-use Rattle.aqe_lexer.specs.TokenList.HasTokens.{none, gap, cut}
+use Rattle.aqe_lexer.specs.TokenList.HasTokens.{gap, cut}
 
 -- a token in front of what has tokens
 pub token_cut : (kind : TokenKind) (word rest : List ℕ) (at : ℕ) (more : List Token) → Begins (word ++ rest) (piece.Cut kind (length word))

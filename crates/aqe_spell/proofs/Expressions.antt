@@ -1,5 +1,5 @@
 -- Expressions read back.
-use Rattle.std.proofs.Common.{ℕ, zero, suc, ◌≡◌, ◌<◌, Bool, true, false, List, [], ◌∷◌, length, refl, sym, subst, ap, ◌∙◌}
+use Rattle.std.proofs.Common.{ℕ, ◌≡◌, ◌<◌, Bool, true, false, List, [], ◌∷◌, length, refl, sym, subst, ◌∙◌}
 use Rattle.std.specs.Prelude.{Option, Some, None, IsTrue, codes}
 use Rattle.aqe_values.specs.declared.sql_type.SqlType.{SqlType}
 use Rattle.aqe_values.specs.declared.sql_type.SqlType.TheVariants as kind
@@ -13,7 +13,6 @@ use Rattle.aqe_trees.specs.declared.expression.NotTree.{NotTree}
 use Rattle.aqe_trees.specs.declared.expression.PredicateTree.{PredicateTree}
 use Rattle.aqe_trees.specs.declared.expression.Test.{Test}
 use Rattle.aqe_trees.specs.declared.expression.Test.TheVariants as test
-use Rattle.aqe_trees.specs.declared.expression.Truth.{Truth}
 use Rattle.aqe_trees.specs.declared.expression.CompareOp.{CompareOp}
 use Rattle.aqe_trees.specs.declared.expression.ComparisonTree.{ComparisonTree}
 use Rattle.aqe_trees.specs.declared.expression.Sign.{Sign}
@@ -25,15 +24,15 @@ use Rattle.aqe_trees.specs.declared.expression.SignTree.{SignTree}
 use Rattle.aqe_trees.specs.declared.expression.PrimaryTree.{PrimaryTree}
 use Rattle.aqe_trees.specs.declared.expression.PrimaryTree.TheVariants as primary
 use Rattle.aqe_trees.specs.declared.expression.Arm.{Arm}
-use Rattle.aqe_trees.specs.Expressions.{IsOr, or_of, IsOrRest, or_end, or_more, IsAnd, and_of, IsAndRest, and_end, and_more, IsNot, not_of, IsNots, affirmed, negated, IsPredicate, predicate_of, IsTest, plain, between, not_between, one_of, not_one_of, like, not_like, is_truth, is_not_truth, IsList, list_of, IsListRest, list_end, list_more, IsComparison, comparison_of, IsComparisonRest, comparison_end, comparison_more, IsSum, sum_of_products, IsSumRest, sum_end, sum_more, IsProduct, product_of_signs, IsProductRest, product_end, product_more, IsSign, sign_of, IsSigns, unsigned, signed, IsPrimary, number, negative_number, literal, is_true, is_false, null, column, table_column, paren, cast, case, case_of, count_all, call, IsArms, end, otherwise, when}
+use Rattle.aqe_trees.specs.Expressions.{IsOr, or_of, IsOrRest, or_end, or_more, IsAnd, and_of, IsAndRest, and_end, and_more, IsNot, not_of, IsNots, affirmed, negated, IsPredicate, predicate_of, IsTest, plain, between, not_between, one_of, not_one_of, like, not_like, IsList, list_of, IsListRest, list_end, list_more, IsComparison, comparison_of, IsComparisonRest, comparison_end, comparison_more, IsSum, sum_of_products, IsSumRest, sum_end, sum_more, IsProduct, product_of_signs, IsProductRest, product_end, product_more, IsSign, sign_of, IsSigns, unsigned, signed, IsPrimary, paren, cast, case, case_of, count_all, call, IsArms, end, otherwise, when}
 use Rattle.aqe_trees.specs.Shapes.{or_tree, and_tree, not_tree, predicate_tree, comparison_tree, sum_tree, product_tree, sign_tree, arm}
-use Rattle.aqe_trees.specs.Words.{compare_of, sum_of, product_of, sign_at, type_of, type_named, is_word, count_word}
+use Rattle.aqe_trees.specs.Words.{compare_of, sum_of, product_of, sign_at, type_of, type_named, is_word}
 use Rattle.aqe_lexer.proofs.Within.{if_has}
 use Rattle.aqe_spell.specs.Texts.{is_bare}
-use Rattle.aqe_spell.specs.Written.{AllStand, Adds, Spells, Spelled, Gone, Going, IsCaseOf, case_alone, case_operand, not_before, nots_before, sign_key, signs_before, type_text}
+use Rattle.aqe_spell.specs.Written.{AllStand, Adds, Spelled, Going, IsCaseOf, case_alone, case_operand, not_before, nots_before, sign_key, signs_before, type_text}
 use Rattle.aqe_spell.proofs.Leaves.{adds_then, adds_none}
 use Rattle.aqe_spell.proofs.Taken.{or_cut, and_cut, not_cut, predicate_cut, one_of_cut, comparison_cut, sum_cut, product_cut, sign_cut, paren_cut, cast_cut, case_cut, call_cut, arm_cut, number_first, signs_first}
-use Rattle.aqe_spell.proofs.Left.{left_or, left_and, left_not, left_predicate, left_test, left_list, left_comparison, left_sum, left_product, left_sign, left_primary, left_arms}
+use Rattle.aqe_spell.proofs.Left.{left_or, left_and, left_not, left_comparison, left_sum, left_product, left_sign}
 
 pub or_step : {next : AndTree} {more : List AndTree} {old mid new : List ℕ} → Adds (λ us. Fixed k.Or ∷ us) old mid
     → Spelled IsAnd next mid new → Going IsOrRest (next ∷ more) more old new
@@ -97,7 +96,6 @@ list_spelled f g _ _ (list_of d r) s =
       adds = adds_then x.adds y.adds;
       reads = λ us. list_of (x.reads (y.words us)) (y.reads us us list_end);
     }
-
 
 pub comparison_step : {op : CompareOp} {key : Key} {next : SumTree} {more : List (CompareOp × SumTree)} {old mid new : List ℕ}
     → compare_of (Fixed key) ≡ Some op → Adds (λ us. Fixed key ∷ us) old mid
@@ -311,10 +309,10 @@ pub paren_spelled : {value : OrTree} {old a b new : List ℕ} → Adds (λ us. F
     → Adds (λ us. Fixed k.Close ∷ us) b new → Spelled IsPrimary (primary.Paren value) old new
 paren_spelled {value = value} o v m ts us d s =
     let c = paren_cut value d in let at = subst AllStand c.1 s in let x = v _ _ c.2 at.1 in record {
-  words = λ us. Fixed k.Open ∷ x.words (Fixed k.Close ∷ us);
-  adds = adds_then o (adds_then x.adds m);
-  reads = λ us. paren (x.reads (Fixed k.Close ∷ us));
-}
+      words = λ us. Fixed k.Open ∷ x.words (Fixed k.Close ∷ us);
+      adds = adds_then o (adds_then x.adds m);
+      reads = λ us. paren (x.reads (Fixed k.Close ∷ us));
+    }
 
 -- no word names the type that NULL has
 named_type : (text : List ℕ) → type_named text ≡ Some kind.NullType → ⊥
@@ -429,10 +427,10 @@ pub call_spelled : {name : List ℕ} {quoted : Bool} {arguments : List OrTree} {
     → Spelled IsPrimary (primary.Call name arguments) old new
 call_spelled {name = name} {quoted = quoted} {arguments = arguments} n o l a ts us d s =
     let c = call_cut name arguments d in let at = subst AllStand c.2 s in let x = l _ _ c.3 at.1.1 in record {
-  words = λ us. Name name quoted ∷ Fixed k.Open ∷ x.words (Fixed k.Close ∷ us);
-  adds = adds_then (n at.0) (adds_then o (adds_then x.adds a));
-  reads = λ us. call (x.reads (Fixed k.Close ∷ us));
-}
+      words = λ us. Name name quoted ∷ Fixed k.Open ∷ x.words (Fixed k.Close ∷ us);
+      adds = adds_then (n at.0) (adds_then o (adds_then x.adds a));
+      reads = λ us. call (x.reads (Fixed k.Close ∷ us));
+    }
 
 pub count_all_spelled : {old a b c new : List ℕ} → (IsTrue (is_bare (codes "count")) → Adds (λ us. Name (codes "count") false ∷ us) old a)
     → Adds (λ us. Fixed k.Open ∷ us) a b → Adds (λ us. Fixed k.Star ∷ us) b c → Adds (λ us. Fixed k.Close ∷ us) c new

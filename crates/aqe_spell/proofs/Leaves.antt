@@ -1,6 +1,6 @@
 -- What is added by operands without an expression in them.
 use Rattle.std.proofs.Common.{ℕ, zero, suc, ◌≡◌, ◌<◌, ◌≤◌, ◌+◌, Bool, true, false, List, [], ◌∷◌, ◌++◌, length, drop, get_or, refl, sym, subst, ap, ◌∙◌, add-one, drop-cons}
-use Rattle.std.specs.Prelude.{Option, Some}
+use Rattle.std.specs.Prelude.{Some}
 use Rattle.aqe_trees.specs.declared.terminal.Key.{Key}
 use Rattle.aqe_trees.specs.declared.terminal.Key.TheVariants as k
 use Rattle.aqe_trees.specs.declared.terminal.Terminal.{Terminal}
@@ -10,10 +10,10 @@ use Rattle.aqe_trees.specs.declared.expression.Truth.{Truth}
 use Rattle.aqe_trees.specs.declared.expression.Sign.{Sign}
 use Rattle.aqe_trees.specs.declared.expression.Sign.TheVariants as sign
 use Rattle.aqe_trees.specs.declared.expression.PrimaryTree.TheVariants as primary
-use Rattle.aqe_trees.specs.Expressions.{IsTest, is_truth, is_not_truth, IsPrimary, number, negative_number, literal, is_true, is_false, null, column, table_column, count_all}
+use Rattle.aqe_trees.specs.Expressions.{IsTest, is_truth, is_not_truth, IsPrimary, number, negative_number, literal, is_true, is_false, null, column, table_column}
 use Rattle.aqe_trees.specs.Words.{truth_of}
 use Rattle.aqe_spell.specs.Texts.{text_of}
-use Rattle.aqe_spell.specs.Written.{AllStand, AllSound, Adds, Spells, Spelled, not_before, minus_before, nots_before, sign_key, signs_before}
+use Rattle.aqe_spell.specs.Written.{AllSound, Adds, Spelled, not_before, minus_before, nots_before, sign_key, signs_before}
 
 -- two texts one behind the other
 pub adds_then : {v w : List Terminal → List Terminal} {old mid new : List ℕ} → Adds v old mid → Adds w mid new

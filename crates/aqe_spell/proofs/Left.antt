@@ -1,27 +1,20 @@
 -- What is left behind an expression of a source stands in the source.
-use Rattle.std.proofs.Common.{ℕ, List, ◌∷◌, ◌≡◌}
-use Rattle.std.specs.Prelude.{Option, Some, None}
-use Rattle.aqe_trees.specs.declared.terminal.Key.{Key}
-use Rattle.aqe_trees.specs.declared.terminal.Key.TheVariants as k
+use Rattle.std.proofs.Common.{ℕ, List}
+use Rattle.std.specs.Prelude.{Option}
 use Rattle.aqe_trees.specs.declared.terminal.Terminal.{Terminal}
-use Rattle.aqe_trees.specs.declared.terminal.Terminal.TheVariants.{Fixed, Name, Number, Literal, Mixed}
 use Rattle.aqe_trees.specs.declared.expression.OrTree.{OrTree}
 use Rattle.aqe_trees.specs.declared.expression.AndTree.{AndTree}
 use Rattle.aqe_trees.specs.declared.expression.NotTree.{NotTree}
 use Rattle.aqe_trees.specs.declared.expression.PredicateTree.{PredicateTree}
 use Rattle.aqe_trees.specs.declared.expression.Test.{Test}
-use Rattle.aqe_trees.specs.declared.expression.Test.TheVariants as test
-use Rattle.aqe_trees.specs.declared.expression.Truth.{Truth}
 use Rattle.aqe_trees.specs.declared.expression.CompareOp.{CompareOp}
 use Rattle.aqe_trees.specs.declared.expression.ComparisonTree.{ComparisonTree}
 use Rattle.aqe_trees.specs.declared.expression.Sign.{Sign}
-use Rattle.aqe_trees.specs.declared.expression.Sign.TheVariants as sign
 use Rattle.aqe_trees.specs.declared.expression.SumTree.{SumTree}
 use Rattle.aqe_trees.specs.declared.expression.ProductOp.{ProductOp}
 use Rattle.aqe_trees.specs.declared.expression.ProductTree.{ProductTree}
 use Rattle.aqe_trees.specs.declared.expression.SignTree.{SignTree}
 use Rattle.aqe_trees.specs.declared.expression.PrimaryTree.{PrimaryTree}
-use Rattle.aqe_trees.specs.declared.expression.PrimaryTree.TheVariants as primary
 use Rattle.aqe_trees.specs.declared.expression.Arm.{Arm}
 use Rattle.aqe_trees.specs.Expressions.{IsOr, or_of, IsOrRest, or_end, or_more, IsAnd, and_of, IsAndRest, and_end, and_more, IsNot, not_of, IsNots, affirmed, negated, IsPredicate, predicate_of, IsTest, plain, between, not_between, one_of, not_one_of, like, not_like, is_truth, is_not_truth, IsList, list_of, IsListRest, list_end, list_more, IsComparison, comparison_of, IsComparisonRest, comparison_end, comparison_more, IsSum, sum_of_products, IsSumRest, sum_end, sum_more, IsProduct, product_of_signs, IsProductRest, product_end, product_more, IsSign, sign_of, IsSigns, unsigned, signed, IsPrimary, number, negative_number, literal, is_true, is_false, null, column, table_column, paren, cast, case, case_of, count_all, call, IsArms, end, otherwise, when}
 use Rattle.aqe_spell.specs.Written.{AllStand}
@@ -117,4 +110,3 @@ mutual
   left_arms end s = s.1
   left_arms (otherwise d) s = (left_or d s.1).1
   left_arms (when d e r) s = left_arms r (left_or e (left_or d s.1).1)
-

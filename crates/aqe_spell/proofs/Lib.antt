@@ -1,4 +1,3 @@
-pub mod Words
 pub mod Left
 pub mod LeftQuery
 pub mod Taken

@@ -1,6 +1,6 @@
 -- The tokens of numbers.
-use Rattle.std.proofs.Common.{ℕ, zero, suc, ◌≡◌, ◌<◌, ◌≤◌, ◌+◌, ◌==◌, ◌&&◌, ◌||◌, ◌^◌, Bool, true, false, List, [], ◌∷◌, ◌++◌, length, drop, take, refl, sym, subst, ap, ◌∙◌, length-append, arith}
-use Rattle.std.specs.Prelude.{if◌then◌else◌, slice_index, nat_le, codes}
+use Rattle.std.proofs.Common.{ℕ, ◌≡◌, ◌<◌, ◌≤◌, ◌+◌, ◌==◌, ◌||◌, Bool, true, false, List, [], ◌∷◌, ◌++◌, length, take, refl, sym, subst, ap, ◌∙◌, length-append, arith}
+use Rattle.std.specs.Prelude.{if◌then◌else◌, slice_index, nat_le}
 use Rattle.std.specs.Char.{is_ascii_digit}
 use Rattle.std.specs.Fmt.{decimal}
 use Rattle.std.specs.Int.{IsInRange}
@@ -11,20 +11,16 @@ use Rattle.std.proofs.lemmas.Bool.Decides.{nat_tests}
 use Rattle.std.proofs.lemmas.Fmt.{decimal_is_IsNumeral}
 use Rattle.std.proofs.lemmas.List.{take_at}
 use Rattle.std.proofs.lemmas.Str.Parse.{tells_digits}
-use Rattle.aqe_lexer.specs.declared.front.Front.{Front}
 use Rattle.aqe_lexer.specs.declared.front.Front.TheVariants as front
-use Rattle.aqe_lexer.specs.declared.piece.Piece.{Piece}
 use Rattle.aqe_lexer.specs.declared.piece.Piece.TheVariants as piece
-use Rattle.aqe_lexer.specs.declared.token.Token.{Token}
 use Rattle.aqe_lexer.specs.declared.token.TokenKind.TheVariants as kind
 use Rattle.aqe_lexer.specs.Bytes.{front_of, is_word_byte}
-use Rattle.aqe_lexer.specs.Content.{text_of}
 use Rattle.aqe_lexer.specs.Numbers.{digits_len, number_value, is_long, is_number, number_limit, run_of}
 use Rattle.aqe_lexer.specs.Pieces.{Begins, Fits}
 use Rattle.aqe_lexer.specs.TokenList.{token_at}
 use Rattle.aqe_trees.specs.declared.terminal.Terminal.TheVariants.{Number}
 use Rattle.aqe_spell.specs.Texts.{long_text}
-use Rattle.aqe_spell.specs.Tokens.{Given, Gives}
+use Rattle.aqe_spell.specs.Tokens.{Gives}
 use Rattle.aqe_spell.proofs.Cuts.{text_at, prefix_all}
 use Rattle.aqe_spell.proofs.WordTokens.{IsOne, spaced_cut, spaced_at}
 

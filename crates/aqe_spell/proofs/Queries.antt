@@ -1,8 +1,7 @@
 -- Queries read back.
-use Rattle.std.proofs.Common.{ℕ, Bool, true, false, List, [], ◌∷◌, ◌≡◌, ◌<◌, ◌≤◌, length, refl, sym, subst, arith}
+use Rattle.std.proofs.Common.{ℕ, Bool, true, false, List, [], ◌∷◌, ◌≡◌, ◌<◌, ◌≤◌, length, refl, subst, arith}
 use Rattle.std.specs.Prelude.{Option, Some, None, codes, IsTrue}
 use Rattle.aqe_base.specs.declared.join_kind.JoinKind.{JoinKind}
-use Rattle.aqe_base.specs.declared.join_kind.JoinKind.TheVariants as kind
 use Rattle.aqe_trees.specs.declared.terminal.Key.{Key}
 use Rattle.aqe_trees.specs.declared.terminal.Key.TheVariants as k
 use Rattle.aqe_trees.specs.declared.terminal.Terminal.{Terminal}
@@ -21,14 +20,14 @@ use Rattle.aqe_trees.specs.declared.query.SourceTree.{SourceTree}
 use Rattle.aqe_trees.specs.declared.query.SourceTree.TheVariants as source
 use Rattle.aqe_trees.specs.declared.query.SortTree.{SortTree}
 use Rattle.aqe_trees.specs.Shapes.{query_tree, union_tree, select_tree, joined_tree, join_step, sort_tree}
-use Rattle.aqe_trees.specs.Expressions.{IsOr, IsList, list_of, IsListRest, list_end, list_more}
+use Rattle.aqe_trees.specs.Expressions.{IsOr, list_of, IsListRest, list_end}
 use Rattle.aqe_trees.specs.Lists.{Commas, no_comma, comma, Listed, listed, IsClause, no_clause, clause, IsBound, no_bound, bound, IsAlias, no_alias, alias, as_alias, IsDistinct, unsaid, all, distinct}
-use Rattle.aqe_trees.specs.Queries.{IsItem, all_columns, all_columns_of, one_column, IsWay, usual_way, ascending, descending, IsNulls, usual_nulls, nulls, IsSort, sort_of, IsOrder, unordered, ordered, IsGroup, ungrouped, grouped, IsKind, join, inner, cross, left, left_outer, right, right_outer, full, full_outer, semi, left_semi, anti, left_anti, IsQuery, query_of, IsUnion, union_of, IsUnionRest, union_end, union_more, IsCore, core_paren, core_select, IsSelect, select_of, IsFrom, no_from, from_of, IsFromRest, from_end, from_more, IsJoined, joined_of, IsJoinedRest, joined_end, joined_more, IsSource, table, source_paren}
+use Rattle.aqe_trees.specs.Queries.{IsItem, all_columns, all_columns_of, one_column, IsWay, usual_way, descending, IsNulls, usual_nulls, nulls, IsSort, sort_of, IsOrder, unordered, ordered, IsGroup, ungrouped, grouped, IsKind, IsQuery, query_of, IsUnion, union_of, IsUnionRest, union_end, union_more, IsCore, core_paren, core_select, IsSelect, select_of, IsFrom, no_from, from_of, IsFromRest, from_end, from_more, IsJoined, joined_of, IsJoinedRest, joined_end, joined_more, IsSource, table, source_paren}
 use Rattle.aqe_spell.specs.Texts.{is_bare}
-use Rattle.aqe_spell.specs.Written.{AllStand, Adds, Spells, Spelled, Gone, Going, all_before, distinct_before, way_before, nulls_before}
+use Rattle.aqe_spell.specs.Written.{AllStand, Adds, Spelled, Going, all_before, distinct_before, way_before, nulls_before}
 use Rattle.aqe_spell.proofs.Leaves.{adds_then, adds_none}
 use Rattle.aqe_spell.proofs.Left.{left_or}
-use Rattle.aqe_spell.proofs.LeftQuery.{left_listed, left_clause, left_bound, left_alias, left_distinct, left_item, left_sort, left_order, left_group, left_kind, left_query, left_union, left_core, left_select, left_from, left_joined, left_source}
+use Rattle.aqe_spell.proofs.LeftQuery.{left_listed, left_clause, left_bound, left_distinct, left_item, left_sort, left_order, left_group, left_kind, left_query, left_union, left_core, left_from, left_joined, left_source}
 use Rattle.aqe_spell.proofs.TakenQuery.{query_cut, union_cut, joined_cut, select_cut, step_cut, core_paren_cut, core_select_cut, table_cut, source_paren_cut}
 
 pub alias_spelled : {text : List ℕ} {quoted : Bool} {old mid new : List ℕ} → Adds (λ us. Fixed k.As ∷ us) old mid

@@ -1,25 +1,23 @@
 -- The tokens of quoted names and strings.
-use Rattle.std.proofs.Common.{ℕ, zero, suc, ◌≡◌, ◌<◌, ◌≤◌, ◌+◌, ◌-◌, ◌==◌, ◌||◌, Bool, true, false, Option, Some, None, List, [], ◌∷◌, ◌++◌, length, drop, refl, sym, subst, ap, ◌∙◌, append_assoc, length-append, arith}
+use Rattle.std.proofs.Common.{ℕ, suc, ◌≡◌, ◌<◌, ◌≤◌, ◌+◌, ◌-◌, ◌==◌, ◌||◌, Bool, true, false, None, List, [], ◌∷◌, ◌++◌, length, drop, refl, sym, subst, ap, ◌∙◌, append_assoc, length-append, arith}
 use Rattle.std.specs.Prelude.{if◌then◌else◌, nat_lt}
 use Rattle.std.specs.List.{flat_map}
 use Rattle.std.proofs.lemmas.Bool.Decides.{nat_tests}
-use Rattle.aqe_lexer.specs.declared.front.Front.TheVariants as front
-use Rattle.aqe_lexer.specs.declared.piece.Piece.{Piece}
 use Rattle.aqe_lexer.specs.declared.piece.Piece.TheVariants as piece
 use Rattle.aqe_lexer.specs.declared.token.Token.{Token}
 use Rattle.aqe_lexer.specs.declared.token.TokenKind.{TokenKind}
 use Rattle.aqe_lexer.specs.declared.token.TokenKind.TheVariants as kind
-use Rattle.aqe_lexer.specs.Content.{text_of, content_of, decoded, string_gives, string_marks, unescape, name_gives, name_marks, undouble}
-use Rattle.aqe_lexer.specs.Parts.{Passes, Stops, EndsIn, step_by, string_part, string_end, name_part, name_end}
+use Rattle.aqe_lexer.specs.Content.{text_of, content_of, unescape, undouble}
+use Rattle.aqe_lexer.specs.Parts.{Passes, step_by, string_part, string_end, name_part, name_end}
 use Rattle.aqe_lexer.specs.Parts.Passes.{here, next}
 use Rattle.aqe_lexer.specs.Pieces.{Begins}
 use Rattle.aqe_lexer.specs.TokenList.{HasTokens, token_at}
 use Rattle.aqe_trees.specs.declared.terminal.Terminal.{Terminal}
 use Rattle.aqe_trees.specs.declared.terminal.Terminal.TheVariants.{Name, Literal}
-use Rattle.aqe_script.specs.Terminals.{terminal_of, key_of, key_of_text, fixed_or, content_terminal}
-use Rattle.aqe_script.specs.Statements.{is_semicolon, parts}
+use Rattle.aqe_script.specs.Terminals.{key_of, key_of_text, fixed_or, content_terminal}
+use Rattle.aqe_script.specs.Statements.{parts}
 use Rattle.aqe_spell.specs.Texts.{doubled, escaped, name_text, literal_text}
-use Rattle.aqe_spell.specs.Tokens.{Given, Gives}
+use Rattle.aqe_spell.specs.Tokens.{Gives}
 use Rattle.aqe_spell.proofs.Cuts.{content_at}
 use Rattle.aqe_spell.proofs.WordTokens.{IsOne, spaced_cut, spaced_at}
 
@@ -81,7 +79,7 @@ pub quoted_gives : (q : ℕ) (inner : List ℕ) (kind : TokenKind) (terminal : T
     → (token : List Token) × (token ≡ token_at kind at (length inner + 2) ∷ []) × (content_of source (token_at kind at (length inner + 2)) ≡ inner)
     × IsOne terminal source token
     × ((more : List Token) → HasTokens (at + length ((q ∷ inner ++ q ∷ []) ++ 32 ∷ [])) rest more
-        → HasTokens at (((q ∷ inner ++ q ∷ []) ++ 32 ∷ []) ++ rest) (token ++ more))
+    → HasTokens at (((q ∷ inner ++ q ∷ []) ++ 32 ∷ []) ++ rest) (token ++ more))
 quoted_gives q inner kind terminal begins none is source at rest d =
     let word : List ℕ = q ∷ inner ++ q ∷ [] in
     let size : length word ≡ length inner + 2 = omega (arith, length-append inner (q ∷ [])) in
@@ -92,15 +90,20 @@ quoted_gives q inner kind terminal begins none is source at rest d =
     let key_is : key_of source token ≡ None = none (text_of source token) in
     let starts : Begins (word ++ 32 ∷ rest) (piece.Cut kind (length word)) =
     subst (λ n. Begins (word ++ 32 ∷ rest) (piece.Cut kind n)) (sym size)
-    (subst (λ l. Begins l (piece.Cut kind (length inner + 2))) (sym whole) (begins rest)) in
-    (token ∷ [], refl, content, record {
-      token = token;
-      alone = refl;
-      is = ap (λ o. fixed_or o (content_terminal kind (text_of source token) (content_of source token))) key_is
-          ∙ (ap (λ l. content_terminal kind (text_of source token) l) content ∙ is (text_of source token));
-      joins = ap parts key_is;
-    }, λ more h. subst (λ n. HasTokens at ((word ++ 32 ∷ []) ++ rest) (token_at kind at n ∷ more)) size
-    (spaced_cut kind word rest at more starts h))
+    (subst (λ l. Begins l (piece.Cut kind (length inner + 2))) (sym whole) (begins rest)) in (
+      token ∷ [],
+      refl,
+      content,
+      record {
+        token = token;
+        alone = refl;
+        is = ap (λ o. fixed_or o (content_terminal kind (text_of source token) (content_of source token))) key_is
+            ∙ (ap (λ l. content_terminal kind (text_of source token) l) content ∙ is (text_of source token));
+        joins = ap parts key_is;
+      },
+      λ more h. subst (λ n. HasTokens at ((word ++ 32 ∷ []) ++ rest) (token_at kind at n ∷ more)) size
+          (spaced_cut kind word rest at more starts h),
+    )
 
 quoted_begins : (text rest : List ℕ) → 0 < length text
     → Begins (96 ∷ (flat_map doubled text ++ 96 ∷ 32 ∷ rest)) (piece.Cut kind.Quoted (length (flat_map doubled text) + 2))
@@ -134,19 +137,19 @@ string_passes (b ∷ text) rest =
     let behind : List ℕ = flat_map escaped text ++ 39 ∷ 32 ∷ rest in
     let more = string_passes text rest in
     let pick : (s t : Bool) → (b == 92) ≡ s → (b == 39) ≡ t
-        → Passes (step_by (string_part 39)) ((if s || t then 92 ∷ b ∷ [] else b ∷ []) ++ behind) (39 ∷ 32 ∷ rest) =
+    → Passes (step_by (string_part 39)) ((if s || t then 92 ∷ b ∷ [] else b ∷ []) ++ behind) (39 ∷ 32 ∷ rest) =
     λ s t. elim s as (λ u. (b == 92) ≡ u → (b == 39) ≡ t
-        → Passes (step_by (string_part 39)) ((if u || t then 92 ∷ b ∷ [] else b ∷ []) ++ behind) (39 ∷ 32 ∷ rest)) [
+    → Passes (step_by (string_part 39)) ((if u || t then 92 ∷ b ∷ [] else b ∷ []) ++ behind) (39 ∷ 32 ∷ rest)) [
       | true ↦ λ e f. let is : b ≡ 92 = grind (arith, nat_tests) in
           subst (λ x. Passes (step_by (string_part 39)) (92 ∷ x ∷ behind) (39 ∷ 32 ∷ rest)) (sym is)
           (next (92 ∷ 92 ∷ behind) behind (39 ∷ 32 ∷ rest) (rw (no_less (suc (length behind)), no_fewer (length behind)) refl) more)
       | false ↦ λ e. elim t as (λ u. (b == 39) ≡ u
           → Passes (step_by (string_part 39)) ((if u then 92 ∷ b ∷ [] else b ∷ []) ++ behind) (39 ∷ 32 ∷ rest)) [
-        | true ↦ λ f. let is : b ≡ 39 = grind (arith, nat_tests) in
-            subst (λ x. Passes (step_by (string_part 39)) (92 ∷ x ∷ behind) (39 ∷ 32 ∷ rest)) (sym is)
-            (next (92 ∷ 39 ∷ behind) behind (39 ∷ 32 ∷ rest) (rw (no_less (suc (length behind)), no_fewer (length behind)) refl) more)
-        | false ↦ λ f. next (b ∷ behind) behind (39 ∷ 32 ∷ rest) (rw (no_less (length behind), f, e) refl) more
-      ]
+            | true ↦ λ f. let is : b ≡ 39 = grind (arith, nat_tests) in
+                subst (λ x. Passes (step_by (string_part 39)) (92 ∷ x ∷ behind) (39 ∷ 32 ∷ rest)) (sym is)
+                (next (92 ∷ 39 ∷ behind) behind (39 ∷ 32 ∷ rest) (rw (no_less (suc (length behind)), no_fewer (length behind)) refl) more)
+            | false ↦ λ f. next (b ∷ behind) behind (39 ∷ 32 ∷ rest) (rw (no_less (length behind), f, e) refl) more
+          ]
     ] in
     subst (λ l. Passes (step_by (string_part 39)) l (39 ∷ 32 ∷ rest)) (sym (append_assoc (escaped b) (flat_map escaped text) (39 ∷ 32 ∷ rest)))
     (pick (b == 92) (b == 39) refl refl)
@@ -157,9 +160,9 @@ string_unescapes (b ∷ text) =
     let more = string_unescapes text in
     let behind : List ℕ = flat_map escaped text in
     let pick : (s t : Bool) → (b == 92) ≡ s → (b == 39) ≡ t
-        → unescape ((if s || t then 92 ∷ b ∷ [] else b ∷ []) ++ behind) ≡ b ∷ text =
+    → unescape ((if s || t then 92 ∷ b ∷ [] else b ∷ []) ++ behind) ≡ b ∷ text =
     λ s t. elim s as (λ u. (b == 92) ≡ u → (b == 39) ≡ t
-        → unescape ((if u || t then 92 ∷ b ∷ [] else b ∷ []) ++ behind) ≡ b ∷ text) [
+    → unescape ((if u || t then 92 ∷ b ∷ [] else b ∷ []) ++ behind) ≡ b ∷ text) [
       | true ↦ λ e f. let is : b ≡ 92 = grind (arith, nat_tests) in rw (is, more) refl
       | false ↦ λ e. elim t as (λ u. (b == 39) ≡ u → unescape ((if u then 92 ∷ b ∷ [] else b ∷ []) ++ behind) ≡ b ∷ text) [
         | true ↦ λ f. let is : b ≡ 39 = grind (arith, nat_tests) in rw (is, more) refl

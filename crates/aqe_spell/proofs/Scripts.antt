@@ -1,15 +1,13 @@
 -- Statements and scripts as texts.
-use Rattle.std.proofs.Common.{ℕ, ◌≡◌, ◌<◌, ◌≤◌, ◌+◌, Bool, true, false, List, [], ◌∷◌, ◌++◌, length, drop, IsUtf8, refl, sym, subst, ap, ◌∙◌, append_assoc, append-nil, length-append, arith}
-use Rattle.std.specs.Prelude.{Option, Some}
-use Rattle.std.specs.List.{All, slice_split}
+use Rattle.std.proofs.Common.{ℕ, ◌≡◌, ◌<◌, ◌+◌, true, false, List, [], ◌∷◌, ◌++◌, length, refl, sym, subst, ap, ◌∙◌, append_assoc, append-nil, arith}
+use Rattle.std.specs.List.{All}
 use Rattle.std.proofs.lemmas.List.{length-map}
 use Rattle.std.proofs.lemmas.List.Elements.{All-cons, All-nil}
 use Rattle.std.proofs.lemmas.List.Splits.{slice_split_at}
 use Rattle.std.proofs.lemmas.Str.{IsUtf8-append, IsUtf8-nil}
-use Rattle.aqe_lexer.specs.declared.piece.Piece.TheVariants as piece
 use Rattle.aqe_lexer.specs.declared.token.Token.{Token}
 use Rattle.aqe_lexer.specs.declared.token.TokenKind.TheVariants as kind
-use Rattle.aqe_lexer.specs.TokenList.{HasTokens, IsTokenList, token_at}
+use Rattle.aqe_lexer.specs.TokenList.{HasTokens, token_at}
 use Rattle.aqe_lexer.specs.TokenList.HasTokens.{none}
 use Rattle.aqe_trees.specs.declared.query.CoreTree.{CoreTree}
 use Rattle.aqe_trees.specs.declared.query.QueryTree.{QueryTree}
@@ -17,20 +15,19 @@ use Rattle.aqe_trees.specs.declared.query.UnionTree.{UnionTree}
 use Rattle.aqe_trees.specs.declared.statement.Stmt.{Stmt}
 use Rattle.aqe_trees.specs.declared.statement.Stmt.TheVariants as stmt
 use Rattle.aqe_trees.specs.declared.statement.TableForm.{TableForm}
-use Rattle.aqe_trees.specs.declared.terminal.Key.TheVariants as k
 use Rattle.aqe_trees.specs.declared.terminal.Terminal.{Terminal}
 use Rattle.aqe_trees.specs.Queries.{IsQuery, query_of, IsUnion, union_of, IsCore, core_paren, core_select}
 use Rattle.aqe_trees.specs.Tables.{IsCreate, create}
 use Rattle.aqe_script.specs.Reserved.{symbol_key}
-use Rattle.aqe_script.specs.Terminals.{terminal_of, terminals_of, key_of}
+use Rattle.aqe_script.specs.Terminals.{terminal_of, terminals_of}
 use Rattle.aqe_script.specs.Statements.{IsStatement, is_semicolon, parts, parts_of, AreStatements, finished, nothing, statement}
 use Rattle.aqe_script.specs.Statements.IsStatement.{create as said_create, query as said_query}
 use Rattle.aqe_spell.specs.Texts.{text_of}
-use Rattle.aqe_spell.specs.Written.{AllStand, AllSound, Adds, Spells, Spelled, SpellsWhole, SpelledWhole}
-use Rattle.aqe_spell.specs.Tokens.{Given, Gives, NoneParts, AllFine, Writable, AllWritable, IsWhole, StatementText, Leads, ScriptText, HasScript, IsSpelling}
+use Rattle.aqe_spell.specs.Written.{AllSound, Adds, Spelled, SpelledWhole}
+use Rattle.aqe_spell.specs.Tokens.{Gives, NoneParts, Writable, AllWritable, IsWhole, StatementText, Leads, ScriptText, HasScript, IsSpelling}
 use Rattle.aqe_spell.proofs.Cuts.{token_cut, blank_cut, text_at}
 use Rattle.aqe_spell.proofs.Sources.{terminals_stand, script_writable}
-use Rattle.aqe_spell.proofs.TextTokens.{Are, words_give, gives_both, gives_nothing, gives_as}
+use Rattle.aqe_spell.proofs.TextTokens.{words_give, gives_both, gives_nothing, gives_as}
 use Rattle.aqe_spell.proofs.Utf8Texts.{words_utf8, low_utf8}
 
 -- words that are a statement, of which there are some, are a text of it

@@ -1,5 +1,5 @@
 -- The tokens of settings.
-use Rattle.std.proofs.Common.{ℕ, zero, suc, ◌≡◌, ◌<◌, ◌≤◌, ◌+◌, Bool, true, false, List, [], ◌∷◌, ◌++◌, length, drop, IsUtf8, refl, sym, subst, ap, ◌∙◌, append_assoc, append-nil, length-append, arith}
+use Rattle.std.proofs.Common.{ℕ, ◌≡◌, ◌+◌, Bool, true, false, List, [], ◌∷◌, ◌++◌, length, IsUtf8, refl, sym, subst, ap, ◌∙◌, append_assoc, append-nil, length-append, arith}
 use Rattle.std.specs.Prelude.{if◌then◌else◌, nat_lt, Option, Some, None, not, slice_index}
 use Rattle.std.specs.Option.{option_or}
 use Rattle.std.specs.List.{list_all}
@@ -7,37 +7,34 @@ use Rattle.std.specs.Str.{str_eq_ignore_ascii_case}
 use Rattle.std.proofs.lemmas.Bool.{and_parts}
 use Rattle.std.proofs.lemmas.Bool.Decides.{nat_tests}
 use Rattle.std.proofs.lemmas.Str.{IsUtf8-append}
-use Rattle.aqe_lexer.specs.declared.piece.Piece.TheVariants as piece
 use Rattle.aqe_lexer.specs.declared.token.Token.{Token}
 use Rattle.aqe_lexer.specs.declared.token.TokenKind.{TokenKind}
 use Rattle.aqe_lexer.specs.declared.token.TokenKind.TheVariants as kind
 use Rattle.aqe_lexer.specs.Bytes.{is_word_byte, is_word_start}
-use Rattle.aqe_lexer.specs.Content.{text_of, content_of, unescape}
-use Rattle.aqe_lexer.specs.Pieces.{Begins}
+use Rattle.aqe_lexer.specs.Content.{text_of, content_of}
 use Rattle.aqe_lexer.specs.TokenList.{HasTokens, token_at}
 use Rattle.aqe_trees.specs.declared.statement.SetForm.{SetForm}
-use Rattle.aqe_trees.specs.declared.statement.Stmt.{Stmt}
 use Rattle.aqe_trees.specs.declared.statement.Stmt.TheVariants as stmt
 use Rattle.aqe_trees.specs.declared.terminal.Key.{Key}
 use Rattle.aqe_trees.specs.declared.terminal.Key.TheVariants as k
 use Rattle.aqe_trees.specs.declared.terminal.Terminal.{Terminal}
-use Rattle.aqe_trees.specs.declared.terminal.Terminal.TheVariants.{Fixed, Name, Literal, Number, Mixed}
+use Rattle.aqe_trees.specs.declared.terminal.Terminal.TheVariants.{Fixed, Literal}
 use Rattle.aqe_trees.specs.Shapes.{set_form}
 use Rattle.aqe_script.specs.Reserved as reserved
 use Rattle.aqe_script.specs.Reserved.{word_key, symbol_key, spelled_in}
-use Rattle.aqe_script.specs.Terminals.{terminal_of, key_of, key_of_text, fixed_or, content_terminal}
+use Rattle.aqe_script.specs.Terminals.{key_of, key_of_text, fixed_or, content_terminal}
 use Rattle.aqe_script.specs.Settings.{IsSettingKey, string_value, value_of, IsSet}
 use Rattle.aqe_script.specs.Settings.IsSettingKey.{word as key_word, pointed as key_pointed}
 use Rattle.aqe_script.specs.Settings.IsSet.{set as setting}
-use Rattle.aqe_script.specs.Statements.{IsStatement, is_semicolon, parts}
+use Rattle.aqe_script.specs.Statements.{IsStatement, parts}
 use Rattle.aqe_script.specs.Statements.IsStatement.{set as said_set}
 use Rattle.aqe_spell.specs.Texts.{key_text, literal_text, spaced}
 use Rattle.aqe_spell.specs.Written.{Adds}
-use Rattle.aqe_spell.specs.Tokens.{Given, Gives, NoneParts, IsFine, AllFine, Writable, IsWhole, StatementText}
+use Rattle.aqe_spell.specs.Tokens.{Gives, NoneParts, IsFine, AllFine, Writable, IsWhole, StatementText}
 use Rattle.aqe_spell.proofs.Cuts.{token_cut, text_at, past, word_begins}
-use Rattle.aqe_spell.proofs.WordTokens.{IsOne, spaced_cut, spaced_at, key_gives}
-use Rattle.aqe_spell.proofs.QuotedTokens.{IsString, string_gives_token}
-use Rattle.aqe_spell.proofs.TextTokens.{gives_both, gives_as}
+use Rattle.aqe_spell.proofs.WordTokens.{spaced_cut, spaced_at, key_gives}
+use Rattle.aqe_spell.proofs.QuotedTokens.{string_gives_token}
+use Rattle.aqe_spell.proofs.TextTokens.{gives_both}
 use Rattle.aqe_spell.proofs.Utf8Texts.{one_ascii, low_utf8, key_utf8, literal_utf8}
 
 not_true : (b : Bool) → not b ≡ true → b ≡ false
@@ -209,12 +206,18 @@ set_gives : (key value : List ℕ) → Gives (key ++ 32 ∷ []) (IsKey key)
 set_gives key value g =
     gives_both
     {B = λ source ts. (equal : Token) × (first : Token) × IsSettingKey source key ts (equal ∷ first ∷ []) × (key_of source equal ≡ Some k.Equal)
-        × (value_of source first [] ≡ value) × NoneParts source ts}
+    × (value_of source first [] ≡ value) × NoneParts source ts}
     (spaced (Fixed k.Set)) ((key ++ 32 ∷ []) ++ (spaced (Fixed k.Equal) ++ spaced (Literal value)))
     (key_gives k.Set refl)
     (gives_both (key ++ 32 ∷ []) (spaced (Fixed k.Equal) ++ spaced (Literal value)) g (tail_gives value)
-    (λ source xs ys a b. (b.equal, b.first, subst (λ l. IsSettingKey source key (xs ++ l) (b.equal ∷ b.first ∷ [])) (sym b.both) (a.is (b.equal ∷ b.first ∷ [])),
-    b.is_equal, b.is_value, none_append source xs ys a.none_parts b.none_parts)))
+    (λ source xs ys a b. (
+      b.equal,
+      b.first,
+      subst (λ l. IsSettingKey source key (xs ++ l) (b.equal ∷ b.first ∷ [])) (sym b.both) (a.is (b.equal ∷ b.first ∷ [])),
+      b.is_equal,
+      b.is_value,
+      none_append source xs ys a.none_parts b.none_parts,
+    )))
     (λ source xs ys one b.
     subst (λ l. IsWhole (stmt.Set (set_form key value)) source (l ++ ys)) (sym one.alone) (record {
       is_statement = said_set (set_read source key value one.token b.0 b.1 ys

@@ -1,7 +1,7 @@
 -- What holds of the tokens of a source.
-use Rattle.std.proofs.Common.{ℕ, zero, suc, ◌≡◌, ◌<◌, ◌≤◌, ◌+◌, ◌-◌, ◌==◌, Bool, true, false, Option, Some, None, List, [], ◌∷◌, ◌++◌, length, drop, take, refl, sym, subst, ap, ◌∙◌, arith}
-use Rattle.std.specs.Prelude.{if◌then◌else◌, slice_index, nat_le, cond}
-use Rattle.std.specs.List.{list_all, prefix_len, onto_first}
+use Rattle.std.proofs.Common.{ℕ, zero, suc, ◌≡◌, ◌<◌, ◌≤◌, ◌+◌, ◌-◌, ◌==◌, true, false, Option, Some, None, List, [], ◌∷◌, length, drop, take, refl, sym, subst, ap, ◌∙◌, arith}
+use Rattle.std.specs.Prelude.{slice_index, nat_le, cond}
+use Rattle.std.specs.List.{prefix_len, onto_first}
 use Rattle.std.proofs.lemmas.Bool.Decides.{nat_tests}
 use Rattle.std.proofs.lemmas.List.{length-drop, length-take, drop-drop}
 use Rattle.std.proofs.lemmas.List.Sums.{list_all-from_AllPass}
@@ -21,15 +21,14 @@ use Rattle.aqe_lexer.specs.Symbols.{symbol_len}
 use Rattle.aqe_lexer.specs.TokenList.{HasTokens, IsTokenList, token_at}
 use Rattle.aqe_lexer.specs.TokenList.HasTokens.{none, gap, cut}
 use Rattle.aqe_lexer.proofs.Within.{if_has, begins_within}
-use Rattle.aqe_lexer.proofs.Known.{IsKnownText, IsSound, begins_sound}
+use Rattle.aqe_lexer.proofs.Known.{IsSound, begins_sound}
 use Rattle.aqe_trees.specs.declared.statement.Stmt.{Stmt}
 use Rattle.aqe_trees.specs.declared.terminal.Key.{Key}
 use Rattle.aqe_trees.specs.declared.terminal.Terminal.{Terminal}
-use Rattle.aqe_script.specs.Reserved.{word_key, symbol_key}
-use Rattle.aqe_script.specs.Terminals.{terminal_of, terminals_of, key_of_text, fixed_or, content_terminal}
-use Rattle.aqe_script.specs.Statements.{IsStatement, AreStatements, finished, nothing, statement, is_semicolon, parts_of}
+use Rattle.aqe_script.specs.Terminals.{terminals_of, key_of_text, fixed_or, content_terminal}
+use Rattle.aqe_script.specs.Statements.{AreStatements, finished, nothing, statement, is_semicolon, parts_of}
 use Rattle.aqe_spell.specs.Written.{Stands, AllStand}
-use Rattle.aqe_spell.specs.Tokens.{IsFine, AllFine, Writable, AllWritable}
+use Rattle.aqe_spell.specs.Tokens.{IsFine, AllFine, AllWritable}
 
 symbol_no_word : (n len : ℕ) → piece.Cut kind.Word len ≡ symbol_of n → ⊥
 symbol_no_word zero len e = absurd cc
@@ -73,9 +72,10 @@ fine_token : (kind : TokenKind) (bytes : List ℕ) (len : ℕ) (content : List �
     → (2 < len → 0 < length content) → IsFine kind (take len bytes) content
 fine_token kind.Word bytes len content b more =
     let sound : IsSound bytes kind.Word len = begins_sound _ _ b in
-    let bounds : (0 < len) × (len ≤ length bytes) = begins_within _ _ b in
-    (ap is_word_start (first_taken bytes len bounds.0) ∙ word_starts bytes (fits_word (front_of bytes) bytes len b.fits),
-    list_all-from_AllPass is_word_byte (take len bytes) sound.text)
+    let bounds : (0 < len) × (len ≤ length bytes) = begins_within _ _ b in (
+      ap is_word_start (first_taken bytes len bounds.0) ∙ word_starts bytes (fits_word (front_of bytes) bytes len b.fits),
+      list_all-from_AllPass is_word_byte (take len bytes) sound.text,
+    )
 fine_token kind.Quoted bytes len content b more =
     let sound : IsSound bytes kind.Quoted len = begins_sound _ _ b in
     let text : 2 < length (take len bytes) = sound.text in
@@ -97,9 +97,10 @@ fine_from source _ _ _ is (cut at len kind bytes tokens b h) =
     let token = token_at kind at len in
     let text : text_of source token ≡ take len bytes = ap (λ n. take n (drop at source)) (omega arith) ∙ ap (take len) (sym is) in
     let content : 2 < len → 0 < length (content_of source token) = λ big.
-    omega (arith, length-take (at + len - 1 - (at + 1)) (drop (at + 1) source), length-drop (at + 1) source) in
-    (subst (λ t. IsFine kind t (content_of source token)) (sym text) (fine_token kind bytes len (content_of source token) b content),
-    fine_from source (at + len) (drop len bytes) tokens (ap (drop len) is ∙ drop-drop len at source) h)
+    omega (arith, length-take (at + len - 1 - (at + 1)) (drop (at + 1) source), length-drop (at + 1) source) in (
+      subst (λ t. IsFine kind t (content_of source token)) (sym text) (fine_token kind bytes len (content_of source token) b content),
+      fine_from source (at + len) (drop len bytes) tokens (ap (drop len) is ∙ drop-drop len at source) h,
+    )
 
 pub fine_tokens : (source : List ℕ) (tokens : List Token) → IsTokenList source tokens → AllFine source tokens
 fine_tokens source tokens list = fine_from source 0 source tokens refl list.cut
@@ -127,9 +128,11 @@ content_stands kind.Symbol text content f = tt
 
 pub terminals_stand : (source : List ℕ) (tokens : List Token) → AllFine source tokens → AllStand (terminals_of source tokens)
 terminals_stand source [] f = tt
-terminals_stand source (t ∷ ts) f =
-    (fixed_stands (key_of_text t.kind (text_of source t)) (content_terminal t.kind (text_of source t) (content_of source t))
-    (content_stands t.kind (text_of source t) (content_of source t) f.0), terminals_stand source ts f.1)
+terminals_stand source (t ∷ ts) f = (
+  fixed_stands (key_of_text t.kind (text_of source t)) (content_terminal t.kind (text_of source t) (content_of source t))
+      (content_stands t.kind (text_of source t) (content_of source t) f.0),
+  terminals_stand source ts f.1,
+)
 
 -- each part of fine tokens is fine
 abbrev PartsFine : List ℕ → List (List Token) → Type 0

@@ -1,16 +1,15 @@
 -- Tables read back.
-use Rattle.std.proofs.Common.{ℕ, Bool, true, false, List, [], ◌∷◌, ◌≡◌, ◌<◌, length, refl, subst, arith}
-use Rattle.std.specs.Prelude.{Some, codes, IsTrue}
+use Rattle.std.proofs.Common.{ℕ, Bool, false, List, [], ◌∷◌, ◌≡◌, ◌<◌, length, refl, subst, arith}
+use Rattle.std.specs.Prelude.{codes, IsTrue}
 use Rattle.aqe_values.specs.declared.sql_type.SqlType.{SqlType}
 use Rattle.aqe_trees.specs.declared.terminal.Key.TheVariants as k
 use Rattle.aqe_trees.specs.declared.terminal.Terminal.{Terminal}
 use Rattle.aqe_trees.specs.declared.terminal.Terminal.TheVariants.{Fixed, Name, Literal}
 use Rattle.aqe_trees.specs.Shapes.{table_form}
-use Rattle.aqe_trees.specs.Words.{is_word, type_of}
-use Rattle.aqe_trees.specs.Lists.{Commas, no_comma, comma, Listed, listed}
+use Rattle.aqe_trees.specs.Lists.{Commas, no_comma, Listed, listed}
 use Rattle.aqe_trees.specs.Tables.{IsColumn, column_of, IsOption, option_of, option_equal, IsPlace, location, options_location, location_options, IsCreate, create}
 use Rattle.aqe_spell.specs.Texts.{is_bare}
-use Rattle.aqe_spell.specs.Written.{AllStand, Adds, Spells, Spelled, Gone, Going, SpellsWhole, SpelledWhole, IsOptions, no_options, options, type_text}
+use Rattle.aqe_spell.specs.Written.{AllStand, Adds, Spelled, Going, SpelledWhole, IsOptions, no_options, options, type_text}
 use Rattle.aqe_spell.proofs.Leaves.{adds_then, adds_none}
 use Rattle.aqe_spell.proofs.LeftQuery.{left_listed}
 use Rattle.aqe_spell.proofs.Queries.{comma_step}
@@ -95,22 +94,22 @@ pub place_spelled : {pairs : List (List ℕ × List ℕ)} {place : List ℕ} {ol
     → Adds (λ us. Literal place ∷ us) b new → SpelledWhole (IsPlace pairs place) old new
 place_spelled {place = place} o w l _ (location {word = word} e) s =
     let x = o (Name word false ∷ Literal place ∷ []) (Name word false ∷ Literal place ∷ []) no_options s in record {
-  words = λ us. x.words (Name (codes "LOCATION") false ∷ Literal place ∷ us);
-  adds = adds_then x.adds (adds_then (w refl) l);
-  reads = place_made (x.reads (Name (codes "LOCATION") false ∷ Literal place ∷ [])) refl;
-}
+      words = λ us. x.words (Name (codes "LOCATION") false ∷ Literal place ∷ us);
+      adds = adds_then x.adds (adds_then (w refl) l);
+      reads = place_made (x.reads (Name (codes "LOCATION") false ∷ Literal place ∷ [])) refl;
+    }
 place_spelled {place = place} o w l _ (options_location e d f) s =
     let x = o _ _ (options e d) s in record {
-  words = λ us. x.words (Name (codes "LOCATION") false ∷ Literal place ∷ us);
-  adds = adds_then x.adds (adds_then (w refl) l);
-  reads = place_made (x.reads (Name (codes "LOCATION") false ∷ Literal place ∷ [])) refl;
-}
+      words = λ us. x.words (Name (codes "LOCATION") false ∷ Literal place ∷ us);
+      adds = adds_then x.adds (adds_then (w refl) l);
+      reads = place_made (x.reads (Name (codes "LOCATION") false ∷ Literal place ∷ [])) refl;
+    }
 place_spelled {place = place} o w l _ (location_options e f d) s =
     let x = o _ _ (options f d) s.1.1 in record {
-  words = λ us. x.words (Name (codes "LOCATION") false ∷ Literal place ∷ us);
-  adds = adds_then x.adds (adds_then (w refl) l);
-  reads = place_made (x.reads (Name (codes "LOCATION") false ∷ Literal place ∷ [])) refl;
-}
+      words = λ us. x.words (Name (codes "LOCATION") false ∷ Literal place ∷ us);
+      adds = adds_then x.adds (adds_then (w refl) l);
+      reads = place_made (x.reads (Name (codes "LOCATION") false ∷ Literal place ∷ [])) refl;
+    }
 
 pub create_spelled : {name place : List ℕ} {quoted : Bool} {columns : List (List ℕ × SqlType)} {pairs : List (List ℕ × List ℕ)}
     {old a b c d e f g h new : List ℕ} → Adds (λ us. Fixed k.Create ∷ us) old a
@@ -121,9 +120,9 @@ pub create_spelled : {name place : List ℕ} {quoted : Bool} {columns : List (Li
     → SpelledWhole (IsPlace pairs place) h new → SpelledWhole (IsCreate (table_form name columns pairs place)) old new
 create_spelled {name = name} {quoted = quoted} m t n o l i u w p _ (create e d f q) s =
     let x = l _ _ d s.1.1.1.1 in let y = p _ q (left_listed (λ t ps qs p. left_column p) d s.1.1.1.1).1.1.1 in record {
-  words = λ us. Fixed k.Create ∷ Name (codes "TABLE") false ∷ Name name quoted ∷ Fixed k.Open
-      ∷ x.words (Fixed k.Close ∷ Fixed k.Using ∷ Name (codes "CSV") false ∷ y.words us);
-  adds = adds_then m (adds_then (t refl) (adds_then (n s.1.1.0) (adds_then o
-      (adds_then x.adds (adds_then i (adds_then u (adds_then (w refl) y.adds)))))));
-  reads = create refl (x.reads (Fixed k.Close ∷ Fixed k.Using ∷ Name (codes "CSV") false ∷ y.words [])) refl y.reads;
-}
+      words = λ us. Fixed k.Create ∷ Name (codes "TABLE") false ∷ Name name quoted ∷ Fixed k.Open
+          ∷ x.words (Fixed k.Close ∷ Fixed k.Using ∷ Name (codes "CSV") false ∷ y.words us);
+      adds = adds_then m (adds_then (t refl) (adds_then (n s.1.1.0) (adds_then o
+          (adds_then x.adds (adds_then i (adds_then u (adds_then (w refl) y.adds)))))));
+      reads = create refl (x.reads (Fixed k.Close ∷ Fixed k.Using ∷ Name (codes "CSV") false ∷ y.words [])) refl y.reads;
+    }

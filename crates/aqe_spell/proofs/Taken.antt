@@ -1,23 +1,19 @@
 -- What the parts of a spelled tree are, by the tree.
-use Rattle.std.proofs.Common.{ℕ, zero, suc, ◌≡◌, Bool, true, false, List, [], ◌∷◌, refl, sym, subst, ap, ◌∙◌}
+use Rattle.std.proofs.Common.{ℕ, ◌≡◌, Bool, true, false, List, [], ◌∷◌, refl, sym, subst, ◌∙◌}
 use Rattle.std.specs.Prelude.{Option, Some, None}
 use Rattle.aqe_values.specs.declared.sql_type.SqlType.{SqlType}
-
-use Rattle.aqe_trees.specs.declared.terminal.Key.{Key}
 use Rattle.aqe_trees.specs.declared.terminal.Key.TheVariants as k
 use Rattle.aqe_trees.specs.declared.terminal.Terminal.{Terminal}
-use Rattle.aqe_trees.specs.declared.terminal.Terminal.TheVariants.{Fixed, Name, Number, Literal, Mixed}
+use Rattle.aqe_trees.specs.declared.terminal.Terminal.TheVariants.{Fixed, Name, Number}
 use Rattle.aqe_trees.specs.declared.expression.OrTree.{OrTree, out-OrTree, out-roll-OrTree}
 use Rattle.aqe_trees.specs.declared.expression.AndTree.{AndTree, out-AndTree, out-roll-AndTree}
 use Rattle.aqe_trees.specs.declared.expression.NotTree.{NotTree, out-NotTree, out-roll-NotTree}
 use Rattle.aqe_trees.specs.declared.expression.PredicateTree.{PredicateTree, out-PredicateTree, out-roll-PredicateTree}
 use Rattle.aqe_trees.specs.declared.expression.Test.{Test, out-Test}
 use Rattle.aqe_trees.specs.declared.expression.Test.TheVariants as test
-use Rattle.aqe_trees.specs.declared.expression.Truth.{Truth}
 use Rattle.aqe_trees.specs.declared.expression.CompareOp.{CompareOp}
 use Rattle.aqe_trees.specs.declared.expression.ComparisonTree.{ComparisonTree, out-ComparisonTree, out-roll-ComparisonTree}
 use Rattle.aqe_trees.specs.declared.expression.Sign.{Sign}
-use Rattle.aqe_trees.specs.declared.expression.Sign.TheVariants as sign
 use Rattle.aqe_trees.specs.declared.expression.SumTree.{SumTree, out-SumTree, out-roll-SumTree}
 use Rattle.aqe_trees.specs.declared.expression.ProductOp.{ProductOp}
 use Rattle.aqe_trees.specs.declared.expression.ProductTree.{ProductTree, out-ProductTree, out-roll-ProductTree}
@@ -25,13 +21,11 @@ use Rattle.aqe_trees.specs.declared.expression.SignTree.{SignTree, out-SignTree,
 use Rattle.aqe_trees.specs.declared.expression.PrimaryTree.{PrimaryTree, out-PrimaryTree}
 use Rattle.aqe_trees.specs.declared.expression.PrimaryTree.TheVariants as primary
 use Rattle.aqe_trees.specs.declared.expression.Arm.{Arm, out-Arm, out-roll-Arm}
-use Rattle.aqe_trees.specs.Expressions.{IsOr, or_of, IsOrRest, or_end, or_more, IsAnd, and_of, IsAndRest, and_end, and_more, IsNot, not_of, IsNots, affirmed, negated, IsPredicate, predicate_of, IsTest, plain, between, not_between, one_of, not_one_of, like, not_like, is_truth, is_not_truth, IsList, list_of, IsListRest, list_end, list_more, IsComparison, comparison_of, IsComparisonRest, comparison_end, comparison_more, IsSum, sum_of_products, IsSumRest, sum_end, sum_more, IsProduct, product_of_signs, IsProductRest, product_end, product_more, IsSign, sign_of, IsSigns, unsigned, signed, IsPrimary, number, negative_number, literal, is_true, is_false, null, column, table_column, paren, cast, case, case_of, count_all, call, IsArms, end, otherwise, when}
-
+use Rattle.aqe_trees.specs.Expressions.{IsOr, or_of, IsOrRest, IsAnd, and_of, IsAndRest, IsNot, not_of, IsNots, IsPredicate, predicate_of, IsTest, plain, between, not_between, one_of, not_one_of, like, not_like, is_truth, is_not_truth, IsList, IsComparison, comparison_of, IsComparisonRest, IsSum, sum_of_products, IsSumRest, IsProduct, product_of_signs, IsProductRest, IsSign, sign_of, IsSigns, unsigned, signed, IsPrimary, number, negative_number, literal, is_true, is_false, null, column, table_column, paren, cast, case, case_of, count_all, call, IsArms, end, otherwise, when}
 use Rattle.aqe_trees.specs.declared.expression.PrimaryTree.TheOpen as open_primary
 use Rattle.aqe_trees.specs.Shapes.{or_tree, and_tree, not_tree, predicate_tree, comparison_tree, sum_tree, product_tree, sign_tree, arm}
 use Rattle.aqe_trees.specs.Words.{sign_at, type_of}
 use Rattle.aqe_spell.specs.Written.{IsCaseOf, case_alone, case_operand, not_before}
-
 
 or_parts : {tree : OrTree} {ts us : List Terminal} → IsOr tree ts us
     → (vs : List Terminal) × IsAnd (out-OrTree tree).first ts vs × IsOrRest (out-OrTree tree).rest vs us

@@ -1,12 +1,10 @@
 -- What the parts of a spelled query are, by the query.
-use Rattle.std.proofs.Common.{ℕ, Bool, true, false, List, [], ◌∷◌, ◌≡◌, refl, sym, subst}
-use Rattle.std.specs.Prelude.{Option, Some, None}
+use Rattle.std.proofs.Common.{ℕ, Bool, false, List, [], ◌∷◌, ◌≡◌, refl, sym, subst}
+use Rattle.std.specs.Prelude.{Option}
 use Rattle.aqe_base.specs.declared.join_kind.JoinKind.{JoinKind}
-use Rattle.aqe_base.specs.declared.join_kind.JoinKind.TheVariants as kind
-use Rattle.aqe_trees.specs.declared.terminal.Key.{Key}
 use Rattle.aqe_trees.specs.declared.terminal.Key.TheVariants as k
 use Rattle.aqe_trees.specs.declared.terminal.Terminal.{Terminal}
-use Rattle.aqe_trees.specs.declared.terminal.Terminal.TheVariants.{Fixed, Name, Number}
+use Rattle.aqe_trees.specs.declared.terminal.Terminal.TheVariants.{Fixed, Name}
 use Rattle.aqe_trees.specs.declared.expression.OrTree.{OrTree}
 use Rattle.aqe_trees.specs.declared.query.QueryTree.{QueryTree, out-QueryTree, out-roll-QueryTree}
 use Rattle.aqe_trees.specs.declared.query.UnionTree.{UnionTree, out-UnionTree, out-roll-UnionTree}
@@ -14,16 +12,14 @@ use Rattle.aqe_trees.specs.declared.query.CoreTree.{CoreTree, out-CoreTree}
 use Rattle.aqe_trees.specs.declared.query.CoreTree.TheVariants as core
 use Rattle.aqe_trees.specs.declared.query.SelectTree.{SelectTree, out-SelectTree, out-roll-SelectTree}
 use Rattle.aqe_trees.specs.declared.query.ItemTree.{ItemTree}
-use Rattle.aqe_trees.specs.declared.query.ItemTree.TheVariants as item
 use Rattle.aqe_trees.specs.declared.query.JoinStep.{JoinStep, out-JoinStep, out-roll-JoinStep}
 use Rattle.aqe_trees.specs.declared.query.JoinedTree.{JoinedTree, out-JoinedTree, out-roll-JoinedTree}
 use Rattle.aqe_trees.specs.declared.query.SourceTree.{SourceTree, out-SourceTree}
 use Rattle.aqe_trees.specs.declared.query.SourceTree.TheVariants as source
 use Rattle.aqe_trees.specs.declared.query.SortTree.{SortTree}
-use Rattle.aqe_trees.specs.Shapes.{query_tree, union_tree, select_tree, joined_tree, join_step, sort_tree}
-use Rattle.aqe_trees.specs.Expressions.{IsOr, IsList, list_of, IsListRest, list_end, list_more}
-use Rattle.aqe_trees.specs.Lists.{Commas, no_comma, comma, Listed, listed, IsClause, no_clause, clause, IsBound, no_bound, bound, IsAlias, no_alias, alias, as_alias, IsDistinct, unsaid, all, distinct}
-use Rattle.aqe_trees.specs.Queries.{IsItem, all_columns, all_columns_of, one_column, IsWay, usual_way, ascending, descending, IsNulls, usual_nulls, nulls, IsSort, sort_of, IsOrder, unordered, ordered, IsGroup, ungrouped, grouped, IsKind, join, inner, cross, left, left_outer, right, right_outer, full, full_outer, semi, left_semi, anti, left_anti, IsQuery, query_of, IsUnion, union_of, IsUnionRest, union_end, union_more, IsCore, core_paren, core_select, IsSelect, select_of, IsFrom, no_from, from_of, IsFromRest, from_end, from_more, IsJoined, joined_of, IsJoinedRest, joined_end, joined_more, IsSource, table, source_paren}
+use Rattle.aqe_trees.specs.Shapes.{query_tree, union_tree, select_tree, joined_tree, join_step}
+use Rattle.aqe_trees.specs.Lists.{Listed, IsClause, IsBound, IsAlias, IsDistinct}
+use Rattle.aqe_trees.specs.Queries.{IsItem, IsOrder, IsGroup, IsKind, IsQuery, query_of, IsUnion, union_of, IsUnionRest, IsCore, core_paren, core_select, IsSelect, select_of, IsFrom, IsJoined, joined_of, IsJoinedRest, joined_end, joined_more, IsSource, table, source_paren}
 use Rattle.aqe_trees.specs.declared.query.CoreTree.TheOpen as open_core
 
 query_parts : {tree : QueryTree} {ts us : List Terminal} → IsQuery tree ts us

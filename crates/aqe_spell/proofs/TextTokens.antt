@@ -1,15 +1,14 @@
 -- The tokens of a text of terminals.
-use Rattle.std.proofs.Common.{ℕ, ◌≡◌, ◌<◌, ◌≤◌, ◌+◌, Bool, true, false, List, [], ◌∷◌, ◌++◌, length, drop, refl, sym, subst, ap, ◌∙◌, append_assoc, append-nil, length-append, arith}
-use Rattle.std.specs.Prelude.{not, map}
-use Rattle.std.proofs.lemmas.List.{drop_at}
+use Rattle.std.proofs.Common.{ℕ, ◌≡◌, ◌+◌, Bool, true, false, List, [], ◌∷◌, ◌++◌, length, refl, sym, subst, ◌∙◌, append_assoc, length-append, arith}
+use Rattle.std.specs.Prelude.{not}
 use Rattle.aqe_lexer.specs.declared.token.Token.{Token}
 use Rattle.aqe_lexer.specs.TokenList.{HasTokens}
 use Rattle.aqe_trees.specs.declared.terminal.Terminal.{Terminal}
 use Rattle.aqe_trees.specs.declared.terminal.Terminal.TheVariants.{Fixed, Name, Literal, Number, Mixed}
-use Rattle.aqe_script.specs.Terminals.{terminal_of, terminals_of}
-use Rattle.aqe_spell.specs.Texts.{is_bare, name_text, word_of, spaced, text_of}
+use Rattle.aqe_script.specs.Terminals.{terminals_of}
+use Rattle.aqe_spell.specs.Texts.{is_bare, spaced, text_of}
 use Rattle.aqe_spell.specs.Written.{Sound, AllSound}
-use Rattle.aqe_spell.specs.Tokens.{Given, Gives, NoneParts}
+use Rattle.aqe_spell.specs.Tokens.{Gives, NoneParts}
 use Rattle.aqe_spell.proofs.Cuts.{past}
 use Rattle.aqe_spell.proofs.WordTokens.{IsOne, key_gives, name_gives}
 use Rattle.aqe_spell.proofs.QuotedTokens.{quoted_name_gives, literal_gives}

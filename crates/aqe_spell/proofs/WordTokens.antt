@@ -1,10 +1,9 @@
 -- The tokens of reserved words, symbols and bare names.
-use Rattle.std.proofs.Common.{ℕ, zero, suc, ◌≡◌, ◌<◌, ◌+◌, ◌||◌, ◌&&◌, Bool, true, false, List, [], ◌∷◌, ◌++◌, length, drop, refl, sym, subst, ap, ◌∙◌, append_assoc, length-append, arith}
-use Rattle.std.specs.Prelude.{if◌then◌else◌, Option, Some, None, codes, map, not, slice_index}
+use Rattle.std.proofs.Common.{ℕ, ◌≡◌, ◌+◌, ◌||◌, ◌&&◌, Bool, true, false, List, [], ◌∷◌, ◌++◌, length, drop, refl, sym, subst, ap, ◌∙◌, append_assoc, length-append, arith}
+use Rattle.std.specs.Prelude.{if◌then◌else◌, Some, None, codes, map, not, slice_index}
 use Rattle.std.specs.List.{list_all, list_any}
 use Rattle.std.specs.Str.{str_eq_ignore_ascii_case}
 use Rattle.std.proofs.lemmas.Bool.{and_parts}
-use Rattle.aqe_lexer.specs.declared.front.Front.TheVariants as front
 use Rattle.aqe_lexer.specs.declared.piece.Piece.TheVariants as piece
 use Rattle.aqe_lexer.specs.declared.token.Token.{Token}
 use Rattle.aqe_lexer.specs.declared.token.TokenKind.{TokenKind}
@@ -23,7 +22,7 @@ use Rattle.aqe_script.specs.Reserved.{word_key, symbol_key, spelled_in}
 use Rattle.aqe_script.specs.Terminals.{terminal_of, key_of, key_of_text, fixed_or, content_terminal}
 use Rattle.aqe_script.specs.Statements.{is_semicolon, parts}
 use Rattle.aqe_spell.specs.Texts.{key_text, is_bare}
-use Rattle.aqe_spell.specs.Tokens.{Given, Gives}
+use Rattle.aqe_spell.specs.Tokens.{Gives}
 use Rattle.aqe_spell.proofs.Cuts.{token_cut, blank_cut, text_at, word_begins}
 
 -- one token, which is the terminal and parts nothing
@@ -144,7 +143,7 @@ not_spelled : (spellings : List (List ℕ × Key)) (text : List ℕ)
 not_spelled [] text e = refl
 not_spelled (spelling ∷ more) text e =
     elim (str_eq_ignore_ascii_case text spelling.0) as (λ b. (b || list_any (λ name. str_eq_ignore_ascii_case text name) (map (λ s. s.0) more)) ≡ false
-        → (if b then Some spelling.1 else spelled_in more text) ≡ None) [
+    → (if b then Some spelling.1 else spelled_in more text) ≡ None) [
       | true ↦ λ h. absurd cc
       | false ↦ λ h. not_spelled more text h
     ] e
@@ -165,8 +164,13 @@ not_reserved text e =
     let x = words.is_one_of words.expression_words text in
     let four = or_parts (c || j || o || d) x e in let three = or_parts (c || j || o) d four.0 in
     let two = or_parts (c || j) o three.0 in let one = or_parts c j two.0 in
-    rw (not_spelled reserved.clause_words text one.0, not_spelled reserved.join_words text one.1, not_spelled reserved.sort_words text two.1,
-    not_spelled reserved.condition_words text three.1, not_spelled reserved.expression_words text four.1) refl
+    rw (
+      not_spelled reserved.clause_words text one.0,
+      not_spelled reserved.join_words text one.1,
+      not_spelled reserved.sort_words text two.1,
+      not_spelled reserved.condition_words text three.1,
+      not_spelled reserved.expression_words text four.1,
+    ) refl
 
 pub name_gives : (text : List ℕ) → is_bare text ≡ true → Gives (text ++ 32 ∷ []) (IsOne (Name text false))
 name_gives text e source at rest d =

@@ -1,5 +1,5 @@
 -- What tokens a text gives, wherever it stands in a source.
-use Rattle.std.specs.Prelude.{ℕ, List, [], ◌∷◌, ◌++◌, ◌+◌, ◌<◌, ◌≤◌, ◌≡◌, Bool, false, true, length, drop, slice_index, IsUtf8}
+use Rattle.std.specs.Prelude.{ℕ, List, [], ◌∷◌, ◌++◌, ◌+◌, ◌<◌, ◌≤◌, ◌≡◌, false, true, length, drop, slice_index, IsUtf8}
 use Rattle.std.specs.List.{list_all}
 use Rattle.aqe_lexer.specs.declared.token.Token.{Token}
 use Rattle.aqe_lexer.specs.declared.token.TokenKind.{TokenKind}

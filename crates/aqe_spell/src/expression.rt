@@ -90,7 +90,10 @@ fn asked(out: &mut Vec<u8>, test: &Test) -> Result<(), AllocError>
             comparison(out, high)?;
             Ok(())
         }
-        Test::OneOf { negated, list: items } => {
+        Test::OneOf {
+            negated,
+            list: items,
+        } => {
             negation(out, *negated)?;
             fixed(out, Key::In)?;
             fixed(out, Key::Open)?;

@@ -116,11 +116,7 @@ pub(crate) fn column(out: &mut Vec<u8>, column: &Text) -> Result<(), AllocError>
 }
 
 /// Writes the name of a column behind that of its table.
-pub(crate) fn table_column(
-    out: &mut Vec<u8>,
-    table: &Text,
-    column: &Text,
-) -> Result<(), AllocError>
+pub(crate) fn table_column(out: &mut Vec<u8>, table: &Text, column: &Text) -> Result<(), AllocError>
     ensures { OnOk result (Spelled IsPrimary (primary.TableColumn table.now column.now) out.old.items out.new.items) }
 {
     name(out, table)?;

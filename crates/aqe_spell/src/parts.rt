@@ -74,9 +74,7 @@ pub(crate) fn arm_parts(pair: &Arm) -> (&OrTree, &OrTree)
 }
 
 /// A body with its ORDER BY, LIMIT and OFFSET.
-pub(crate) fn query_parts(
-    tree: &QueryTree,
-) -> (&UnionTree, &[SortTree], Option<u64>, Option<u64>)
+pub(crate) fn query_parts(tree: &QueryTree) -> (&UnionTree, &[SortTree], Option<u64>, Option<u64>)
     ensures { tree.now ≡ query_tree result.0.now result.1.now result.2 result.3 }
 {
     (&tree.body, tree.order.as_slice(), tree.limit, tree.offset)

@@ -127,12 +127,18 @@ fn source(out: &mut Vec<u8>, tree: &SourceTree) -> Result<(), AllocError>
     ensures { OnOk result (Spelled IsSource tree.now out.old.items out.new.items) }
 {
     match tree {
-        SourceTree::Table { name: table, alias: named } => {
+        SourceTree::Table {
+            name: table,
+            alias: named,
+        } => {
             name(out, table)?;
             alias(out, named)?;
             Ok(())
         }
-        SourceTree::Paren { query: inner, alias: named } => {
+        SourceTree::Paren {
+            query: inner,
+            alias: named,
+        } => {
             fixed(out, Key::Open)?;
             query(out, inner.get())?;
             fixed(out, Key::Close)?;

@@ -31,11 +31,7 @@ pub(crate) fn alias(out: &mut Vec<u8>, named: &Option<Text>) -> Result<(), Alloc
 }
 
 /// Writes a word and an expression, where there is one.
-pub(crate) fn clause(
-    out: &mut Vec<u8>,
-    key: Key,
-    value: &Option<OrTree>,
-) -> Result<(), AllocError>
+pub(crate) fn clause(out: &mut Vec<u8>, key: Key, value: &Option<OrTree>) -> Result<(), AllocError>
     requires { Sound (Fixed key) }
     ensures { OnOk result (Spelled (IsClause key) value.now out.old.items out.new.items) }
 {
@@ -99,7 +95,10 @@ fn item(out: &mut Vec<u8>, tree: &ItemTree) -> Result<(), AllocError>
             fixed(out, Key::Star)?;
             Ok(())
         }
-        ItemTree::One { value, alias: named } => {
+        ItemTree::One {
+            value,
+            alias: named,
+        } => {
             or(out, value)?;
             alias(out, named)?;
             Ok(())

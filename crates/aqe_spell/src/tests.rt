@@ -150,7 +150,8 @@ fn settings_and_tables_stand_on_their_lines(rt: HostRuntime) -> Result<(), Memor
     };
     let mut script = script(alloc, Stmt::Set(set))?;
     script.push(Stmt::CreateTable(table))?;
-    let expected = "SET spark.x = '64MB -- \\'' ;\nCREATE TABLE table ( a INT , b STRING ) USING CSV OPTIONS ( 'header' 'true' ) LOCATION 'd' ;\n";
+    let expected =
+        "SET spark.x = '64MB -- \\'' ;\nCREATE TABLE table ( a INT , b STRING ) USING CSV OPTIONS ( 'header' 'true' ) LOCATION 'd' ;\n";
     assert!(rt; is(alloc, &script, expected)?);
     Ok(())
 }
@@ -160,10 +161,7 @@ fn case(alloc: Global) -> Result<PrimaryTree, Memory> {
     let operand = Boxed::new(alloc, alone(alloc, column(alloc, "a")?))?;
     let literal = PrimaryTree::Literal(text(alloc, "x")?);
     let mut arms = Items::new(alloc);
-    arms.push(Arm::new(
-        alone(alloc, number(1)),
-        alone(alloc, literal),
-    ))?;
+    arms.push(Arm::new(alone(alloc, number(1)), alone(alloc, literal)))?;
     let otherwise = Boxed::new(alloc, alone(alloc, PrimaryTree::Null))?;
     Ok(PrimaryTree::case(Some(operand), arms, Some(otherwise)))
 }
@@ -236,7 +234,8 @@ fn each_part_of_a_query_is_written(rt: HostRuntime) -> Result<(), Memory> {
     })?;
     let query = QueryTree::new(body, order, Some(3), None);
     let script = script(alloc, Stmt::Query(query))?;
-    let expected = "SELECT DISTINCT CASE a WHEN 1 THEN 'x' ELSE NULL END FROM t LEFT JOIN u ON a = b WHERE NOT a IN ( 1 , 2 ) UNION ALL ( SELECT * ) ORDER BY a DESC NULLS FIRST LIMIT 3 ;\n";
+    let expected =
+        "SELECT DISTINCT CASE a WHEN 1 THEN 'x' ELSE NULL END FROM t LEFT JOIN u ON a = b WHERE NOT a IN ( 1 , 2 ) UNION ALL ( SELECT * ) ORDER BY a DESC NULLS FIRST LIMIT 3 ;\n";
     assert!(rt; is(alloc, &script, expected)?);
     Ok(())
 }

@@ -1,4 +1,4 @@
-use Rattle.std.proofs.Common.{drop, List}
+use Rattle.std.proofs.Common.{drop}
 use Rattle.std.specs.Prelude.{Option}
 use Rattle.aqe_trees.specs.declared.expression.OrTree.{OrTree}
 use Rattle.aqe_trees.specs.Expressions.{IsOrRest, IsAndRest, IsListRest, IsComparisonRest, IsSumRest, IsProductRest, IsArms}

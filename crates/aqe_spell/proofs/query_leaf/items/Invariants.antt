@@ -1,6 +1,6 @@
 use Rattle.std.proofs.Common.{drop}
 use Rattle.aqe_trees.specs.Lists.{Commas}
-use Rattle.aqe_trees.specs.Queries.{IsItem, IsSort}
+use Rattle.aqe_trees.specs.Queries.{IsItem}
 use Rattle.aqe_spell.specs.Written.{Going}
 use Rattle.aqe_spell.proofs.query_leaf.items.Given as goal
 

@@ -1,5 +1,4 @@
 use Rattle.std.proofs.Common.{drop}
-use Rattle.aqe_trees.specs.Expressions.{IsListRest}
 use Rattle.aqe_trees.specs.Lists.{Commas}
 use Rattle.aqe_trees.specs.Queries.{IsSort}
 use Rattle.aqe_spell.specs.Written.{Going}

@@ -1,4 +1,4 @@
-use Rattle.std.proofs.Common.{rules, [], ◌++◌, ◌∙◌, ap}
+use Rattle.std.proofs.Common.{[], ◌++◌, ◌∙◌, ap}
 use Rattle.aqe_spell.proofs.SettingTokens.{set_text}
 use Rattle.aqe_spell.proofs.statement.set.Goals as goal
 

@@ -1,6 +1,6 @@
 use Rattle.std.proofs.Common.{drop}
 use Rattle.aqe_trees.specs.Lists.{Commas}
-use Rattle.aqe_trees.specs.Tables.{IsColumn, IsOption}
+use Rattle.aqe_trees.specs.Tables.{IsOption}
 use Rattle.aqe_spell.specs.Written.{Going}
 use Rattle.aqe_spell.proofs.table.options.Given as goal
 
