@@ -1,16 +1,15 @@
 -- Two answers of a closed plan without Limit have the same rows.
-use Rattle.std.proofs.Common.{◌≡◌, ℕ, List, [], ◌∷◌, ◌++◌, map, length, refl, sym}
-use Rattle.std.specs.Prelude.{filter, IsPermutation}
+use Rattle.std.proofs.Common.{List, [], ◌∷◌, ◌++◌, length}
+use Rattle.std.specs.Prelude.{IsPermutation}
 use Rattle.std.proofs.lemmas.List.Sorted.{IsPermutation-refl, IsPermutation-trans, IsPermutation-sym, IsPermutation-append, IsPermutation-map}
 use Rattle.aqe_values.specs.Equality.{row_eq}
 use Rattle.aqe_expr.specs.Meaning.{holds}
-use Rattle.aqe_logical.specs.declared.plan.Logical.{Logical, OneRow, Scan, Empty, Held, HeldPartial}
+use Rattle.aqe_logical.specs.declared.plan.Logical.{OneRow, Scan, Empty, Held, HeldPartial}
 use Rattle.aqe_logical.specs.Shapes.{filtered, projected, joined, aggregated, united, sorted, limited, sampled}
-use Rattle.aqe_logical.specs.Answers.{Tables, Stages, Row, Answer, AnswerOf, no_stage, table_rows, meets}
+use Rattle.aqe_logical.specs.Answers.{Row, table_rows, meets}
 use Rattle.aqe_logical.specs.Columns.{width}
 use Rattle.aqe_logical.specs.Groups.{row_of, group_rows}
 use Rattle.aqe_logical.specs.Joins.{pairs}
-use Rattle.aqe_logical.specs.WellFormed.{Closed, WithoutLimit}
 use Rattle.aqe_logical.specs.Laws.{AnswersAgree, ClosedPlansReadNoStage}
 use Rattle.aqe_logical.proofs.Rearranged.{filter-permuted}
 use Rattle.aqe_logical.proofs.Rows.{rows_same}

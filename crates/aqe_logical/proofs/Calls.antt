@@ -1,15 +1,14 @@
 -- The order of the values does not matter to an aggregate call.
-use Rattle.std.proofs.Common.{◌≡◌, Bool, true, false, cond, List, Option, Some, None, map, refl, sym, ap, ◌∙◌, arith, ℤ, pos, ◌+ℤ◌, w64}
-use Rattle.std.specs.Prelude.{fold, IsPermutation}
+use Rattle.std.proofs.Common.{◌≡◌, Bool, true, false, List, Option, Some, None, map, refl, sym, ap, ◌∙◌, arith, ℤ, ◌+ℤ◌, w64}
+use Rattle.std.specs.Prelude.{IsPermutation}
 use Rattle.std.specs.Int.{int_wrap}
-use Rattle.std.specs.Cmp.{IsTotalOrder}
 use Rattle.std.specs.Ordering.{ordering_reverse}
 use Rattle.std.specs.declared.cmp.Ordering.{Ordering}
 use Rattle.std.specs.declared.cmp.Ordering.TheVariants.{Less, Equal, Greater}
 use Rattle.std.proofs.lemmas.Int.{ints, int_wrap_fits, SFits-int_wrap, int_wrap-add_left}
 use Rattle.std.proofs.lemmas.List.Sorted.{IsPermutation-map}
 use Rattle.aqe_values.specs.declared.value.Value.{Value}
-use Rattle.aqe_values.specs.declared.value.Value.TheVariants.{Null, Boolean, Int, BigInt, Text}
+use Rattle.aqe_values.specs.declared.value.Value.TheVariants.{BigInt}
 use Rattle.aqe_values.specs.declared.sort_way.SortWay.{SortWay}
 use Rattle.aqe_values.specs.Equality.{value_eq}
 use Rattle.aqe_values.specs.Order.{way_cmp}

@@ -1,14 +1,13 @@
 -- Groups of rows in another order.
-use Rattle.std.proofs.Common.{◌≡◌, ℕ, zero, suc, ◌+◌, Bool, true, false, not, cond, ◌||◌, List, [], ◌∷◌, ◌++◌, map, refl, sym, ap, ◌∙◌, arith, IsTrue, ◌↔◌}
+use Rattle.std.proofs.Common.{◌≡◌, ℕ, zero, suc, ◌+◌, Bool, true, false, not, cond, ◌||◌, List, [], ◌∷◌, ◌++◌, map, refl, sym, ap, ◌∙◌, arith}
 use Rattle.std.specs.Prelude.{filter, IsPermutation}
 use Rattle.std.specs.List.{list_any}
-use Rattle.std.proofs.lemmas.List.Sorted.{IsPermutation-refl, IsPermutation-trans, IsPermutation-map, list_any-IsPermutation}
-use Rattle.aqe_values.specs.declared.value.Value.{Value}
+use Rattle.std.proofs.lemmas.List.Sorted.{IsPermutation-refl, IsPermutation-map, list_any-IsPermutation}
 use Rattle.aqe_values.specs.Equality.{row_eq}
 use Rattle.aqe_expr.specs.Meaning.{val}
 use Rattle.aqe_logical.specs.declared.plan.AggCall.{AggCall}
 use Rattle.aqe_logical.specs.Answers.{Row}
-use Rattle.aqe_logical.specs.Groups.{distinct, group_keys, group_rows, rows_with, call_value, folded}
+use Rattle.aqe_logical.specs.Groups.{distinct, group_keys, group_rows, rows_with, call_value}
 use Rattle.aqe_logical.proofs.Rearranged.{times, total, total-filter, permuted, from_counts, filter-permuted, bit}
 use Rattle.aqe_logical.proofs.Rows.{rows_same}
 use Rattle.aqe_logical.proofs.Calls.{folded-permuted}

@@ -1,16 +1,15 @@
--- Small known answers, and lists that are none: a check of the definitions by hand.
-use Rattle.std.proofs.Common.{◌≡◌, ℕ, List, [], ◌∷◌, ◌++◌, length, refl, arith, pos, Some, None}
-use Rattle.std.specs.Prelude.{IsPermutation}
-use Rattle.std.proofs.lemmas.List.Sorted.{IsPermutation-refl, IsPermutation-append_comm, length_permutation}
-use Rattle.aqe_base.specs.declared.join_kind.JoinKind.TheVariants.{Inner, LeftOuter, RightOuter, FullOuter, LeftSemi, LeftAnti}
+-- Small known answers of joins and groups, and what becomes of NULL: a check of the definitions by hand.
+use Rattle.std.proofs.Common.{◌≡◌, List, [], ◌∷◌, refl, pos}
+use Rattle.std.proofs.lemmas.List.Sorted.{IsPermutation-refl}
+use Rattle.aqe_base.specs.declared.join_kind.JoinKind.TheVariants.{Inner, FullOuter, LeftSemi, LeftAnti}
 use Rattle.aqe_values.specs.declared.value.Value.{Value}
 use Rattle.aqe_values.specs.declared.value.Value.TheVariants.{Null, Int, BigInt}
 use Rattle.aqe_expr.specs.declared.expr.Expr.{Expr, Column, Literal}
 use Rattle.aqe_expr.specs.declared.expr.BinaryOp.TheVariants as binary
 use Rattle.aqe_expr.specs.Shapes.{binary_of}
 use Rattle.aqe_logical.specs.declared.plan.AggFun.TheVariants.{Count, Sum}
-use Rattle.aqe_logical.specs.declared.plan.Logical.{Logical, OneRow, Scan}
-use Rattle.aqe_logical.specs.Shapes.{filtered, limited}
+use Rattle.aqe_logical.specs.declared.plan.Logical.{Scan}
+use Rattle.aqe_logical.specs.Shapes.{filtered}
 use Rattle.aqe_logical.specs.Answers.{Tables, Row, AnswerOf, meets}
 use Rattle.aqe_logical.specs.Groups.{folded, finish_rows}
 use Rattle.aqe_logical.specs.Joins.{pairs}
@@ -28,25 +27,12 @@ tables = (numbers ∷ []) ∷ []
 abbrev is_one : Expr
 is_one = binary_of binary.Eq (Column 0) (Literal (Int (pos 1)))
 
-one_row : AnswerOf tables OneRow ([] ∷ [])
-one_row = refl
-
-no_row_is_none : AnswerOf tables OneRow [] → ⊥
-no_row_is_none h = cc
-
 scan_in_order : AnswerOf tables (Scan 0 []) numbers
 scan_in_order = IsPermutation-refl numbers
-
-scan_misses_nothing : AnswerOf tables (Scan 0 []) [] → ⊥
-scan_misses_nothing h = let impossible : ⊥ = omega (arith, length_permutation numbers [] h) in impossible
 
 -- a filter drops the rows at which the condition is NULL
 filter_keeps_one : AnswerOf tables (filtered is_one (Scan 0 [])) (row (Int (pos 1)) ∷ [])
 filter_keeps_one = (numbers, scan_in_order, refl)
-
--- a limit cuts some answer of its child
-limit_cuts : AnswerOf tables (limited (Some 1) 1 (Scan 0 [])) (row (Int (pos 2)) ∷ [])
-limit_cuts = (numbers, scan_in_order, refl)
 
 -- the rows 1 and 3 on the right; NULL meets nothing
 abbrev others : List Row

@@ -9,3 +9,4 @@ pub mod Widths
 pub mod Shapes
 pub mod Schemas
 pub mod KnownAnswers
+pub mod Examples

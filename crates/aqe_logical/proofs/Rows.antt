@@ -1,8 +1,7 @@
 -- Rows and values: equality as data, and rows in another order.
-use Rattle.std.proofs.Common.{◌≡◌, Bool, ◌↔◌, IsTrue, List, rules}
+use Rattle.std.proofs.Common.{rules}
 use Rattle.std.specs.Cmp.Lexicographic.{pointwise_decides}
-use Rattle.aqe_values.specs.declared.value.Value.{Value}
-use Rattle.aqe_values.specs.Equality.{value_eq, row_eq, ValuesEqualAsData, RowsEqualAsData}
+use Rattle.aqe_values.specs.Equality.{ValuesEqualAsData, RowsEqualAsData}
 
 pub values_same : ValuesEqualAsData
 values_same a b = search rules

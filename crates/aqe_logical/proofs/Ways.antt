@@ -1,5 +1,5 @@
 -- The order under a sort key is total, and only equal values stand level in it.
-use Rattle.std.proofs.Common.{◌≡◌, ℕ, Bool, true, false, cond, refl, sym, ◌∙◌, ap, subst, rules}
+use Rattle.std.proofs.Common.{◌≡◌, ℕ, Bool, true, false, cond, refl, sym, ◌∙◌, ap, subst}
 use Rattle.std.specs.Ordering.{nat_cmp, then_cmp, on, flip_args, ordering_then, ordering_reverse, is_eq}
 use Rattle.std.specs.Cmp.{IsTotalOrder, then_total, on_total, back_total, nat_cmp_total}
 use Rattle.std.specs.declared.cmp.Ordering.{Ordering}

@@ -1,12 +1,11 @@
--- Each row of an answer of a well-formed plan has as many values as the plan has columns.
-use Rattle.std.proofs.Common.{◌≡◌, ℕ, zero, suc, ◌+◌, ◌-◌, ◌≤◌, Bool, true, false, not, cond, List, [], ◌∷◌, ◌++◌, map, take, drop, length, refl, sym, ap, ◌∙◌, arith, Option, Some, None, length-append, subst, inl, inr}
-use Rattle.std.specs.Prelude.{filter, flat_map, replicate, All, IsPermutation, slice_index_or}
+-- What a well-formed plan answers has the width of its columns.
+use Rattle.std.proofs.Common.{◌≡◌, ℕ, zero, suc, ◌+◌, ◌-◌, Bool, true, false, not, cond, List, [], ◌∷◌, ◌++◌, map, take, drop, length, refl, sym, ap, ◌∙◌, arith, Option, Some, None, length-append, subst, inl, inr}
+use Rattle.std.specs.Prelude.{filter, All, slice_index_or}
 use Rattle.std.proofs.lemmas.List.{length-map, length-take, length-replicate}
-use Rattle.std.proofs.lemmas.List.Elements.{All-nil, All-cons, All-head, All-tail, All-append, All-map, All-filter, All-take, All-drop, All-weaker, All-same}
+use Rattle.std.proofs.lemmas.List.Elements.{All-nil, All-cons, All-head, All-tail, All-append, All-map, All-filter, All-take, All-drop, All-weaker}
 use Rattle.std.proofs.lemmas.List.Sorted.{All-permutation}
 use Rattle.aqe_base.specs.declared.join_kind.JoinKind.{JoinKind}
 use Rattle.aqe_base.specs.declared.join_kind.JoinKind.TheVariants.{Inner, Cross, LeftOuter, RightOuter, FullOuter, LeftSemi, LeftAnti}
-use Rattle.aqe_values.specs.declared.value.Value.{Value}
 use Rattle.aqe_values.specs.declared.value.Value.TheVariants.{Null}
 use Rattle.aqe_values.specs.Equality.{row_eq}
 use Rattle.aqe_expr.specs.declared.expr.Expr.{Expr}
@@ -18,7 +17,7 @@ use Rattle.aqe_logical.specs.Answers.{Tables, Stages, Row, Answer, table_rows, m
 use Rattle.aqe_logical.specs.Columns.{width, schema_of, shows_right}
 use Rattle.aqe_logical.specs.Groups.{row_of, distinct, group_keys, group_rows, finish_rows, finished, rows_with, call_value}
 use Rattle.aqe_logical.specs.Joins.{nulls, where_none, with_matches, left_over, half, pairs}
-use Rattle.aqe_logical.specs.WellFormed.{WellFormed, Sound, LeavesFit, HaveWidth}
+use Rattle.aqe_logical.specs.WellFormed.{Sound, LeavesFit, HaveWidth}
 use Rattle.aqe_logical.specs.Laws.{AnswersHaveTheWidth}
 
 abbrev Wide : ℕ → Row → Type 0

@@ -1,6 +1,5 @@
 -- Which lists of rows answer a plan.
 use Rattle.std.specs.Prelude.{◌≡◌, ℕ, ◌-◌, ◌⊎◌, Bool, List, [], ◌∷◌, ◌++◌, map, filter, flat_map, take, drop, length, Option, Some, None, slice_index_or, IsPermutation}
-use Rattle.aqe_base.specs.declared.stage_id.StageId.{StageId}
 use Rattle.aqe_values.specs.declared.value.Value.{Value}
 use Rattle.aqe_expr.specs.declared.expr.Expr.{Expr}
 use Rattle.aqe_expr.specs.Meaning.{holds}

@@ -2,9 +2,9 @@
 use Rattle.std.specs.Prelude.{ℕ, zero, suc, ◌+◌, Bool, true, false, not, cond, List, [], ◌∷◌, ◌++◌, map, filter, fold, take, Option, Some, None, slice_index_or, ℤ, pos, ◌+ℤ◌}
 use Rattle.std.specs.Int.{w64, int_wrap}
 use Rattle.std.specs.declared.cmp.Ordering.{Ordering}
-use Rattle.std.specs.declared.cmp.Ordering.TheVariants.{Less, Equal, Greater}
+use Rattle.std.specs.declared.cmp.Ordering.TheVariants.{Greater}
 use Rattle.aqe_values.specs.declared.value.Value.{Value}
-use Rattle.aqe_values.specs.declared.value.Value.TheVariants.{Null, Boolean, Int, BigInt, Text}
+use Rattle.aqe_values.specs.declared.value.Value.TheVariants.{Null, Int, BigInt}
 use Rattle.aqe_values.specs.Equality.{row_eq}
 use Rattle.aqe_values.specs.declared.sort_way.SortWay.{SortWay}
 use Rattle.aqe_values.specs.Order.{way_cmp}

@@ -5,7 +5,7 @@ use Rattle.aqe_logical.specs.Answers.{Tables, Stages, Row, Answer, AnswerOf}
 use Rattle.aqe_logical.specs.Columns.{width}
 use Rattle.aqe_logical.specs.WellFormed.{WellFormed, Closed, WithoutLimit, LeavesFit, HaveWidth}
 
--- each row of an answer of a well-formed plan has as many values as the plan has columns
+-- a well-formed plan answers with rows of the width of its columns
 abbrev pub AnswersHaveTheWidth : Type 0
 AnswersHaveTheWidth =
     (tables : Tables) (stages : Stages) (plan : Logical) (l : List Row) →

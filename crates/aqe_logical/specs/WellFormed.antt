@@ -1,6 +1,5 @@
 -- Which plans are closed, and which are well formed.
-use Rattle.std.specs.Prelude.{◌≡◌, ℕ, ◌+◌, ◌<◌, ◌≤◌, ◌^◌, Bool, List, [], ◌∷◌, length, All, Option, Some, None}
-use Rattle.aqe_values.specs.declared.value.Value.{Value}
+use Rattle.std.specs.Prelude.{◌≡◌, ℕ, ◌+◌, ◌<◌, ◌≤◌, ◌^◌, List, length, All, Option, Some, None}
 use Rattle.aqe_expr.specs.declared.expr.Expr.{Expr}
 use Rattle.aqe_expr.specs.Columns.{ColumnsBelow}
 use Rattle.aqe_logical.specs.declared.plan.AggCall.{AggCall}
@@ -73,8 +72,8 @@ IsPlaceOver n place = Unit {0}
 
 -- What holds of each node: a project has a field for each item, and an aggregate one for each key
 -- and call; the sides of a union are as wide; a stage with partial rows has at least a field for
--- each call, behind those of the keys; and each column number in an expression is below the number
--- of columns of the rows that it is read over. A join's condition is read over both sides together.
+-- each call, behind those of the keys; and an expression names columns of the rows below it, which
+-- for the condition of a join are the columns of its left side and then of its right side.
 abbrev pub Sound : Logical → Type 0
 Sound OneRow = Unit {0}
 Sound (Scan table schema) = length schema ≤ column_limit

@@ -2,7 +2,7 @@
 
 ghost use Rattle.aqe_logical.specs.Laws.{AnswersHaveTheWidth, AnswersAgree, ClosedPlansReadNoStage};
 
-/// Each row of an answer of a well-formed plan has as many values as the plan has columns.
+/// A well-formed plan answers with rows of the width of its columns.
 pub fn answers_have_the_width()
     ensures { AnswersHaveTheWidth }
 {}

@@ -42,16 +42,84 @@ fn first_column(alloc: Global) -> Result<SortKeys, Memory> {
     Ok(keys)
 }
 
-/// A count of the rows of two scans, without groups.
-fn counted(alloc: Global) -> Result<Logical, Memory> {
-    let both = Logical::union(alloc, scan(alloc)?, scan(alloc)?)?;
-    let kept = Logical::filter(alloc, Expr::Literal(Value::Boolean(true)), both)?;
+fn two_scans(alloc: Global) -> Result<Logical, Memory> {
+    let left = scan(alloc)?;
+    let right = scan(alloc)?;
+    Logical::union(alloc, left, right)
+}
+
+fn all_rows(alloc: Global) -> Result<Logical, Memory> {
+    let child = two_scans(alloc)?;
+    Logical::filter(alloc, Expr::Literal(Value::Boolean(true)), child)
+}
+
+fn count_of_the_column(alloc: Global) -> Result<AggCalls, Memory> {
     let mut calls = AggCalls::new(alloc);
     calls.push(AggCall {
         fun: AggFun::Count,
         arg: Expr::Column(0),
     })?;
-    Logical::aggregate(alloc, Exprs::new(alloc), calls, one_column(alloc)?, kept)
+    Ok(calls)
+}
+
+/// A count of the rows of two scans, without groups.
+fn counted(alloc: Global) -> Result<Logical, Memory> {
+    let child = all_rows(alloc)?;
+    let calls = count_of_the_column(alloc)?;
+    let schema = one_column(alloc)?;
+    Logical::aggregate(alloc, Exprs::new(alloc), calls, schema, child)
+}
+
+fn sorted(alloc: Global) -> Result<Logical, Memory> {
+    let child = counted(alloc)?;
+    let keys = first_column(alloc)?;
+    Logical::sort(alloc, keys, child)
+}
+
+fn limited(alloc: Global) -> Result<Logical, Memory> {
+    let child = scan(alloc)?;
+    Logical::limit(alloc, Some(1), 0, child)
+}
+
+fn joined(alloc: Global) -> Result<Logical, Memory> {
+    let left = sorted(alloc)?;
+    let right = limited(alloc)?;
+    Logical::join(
+        alloc,
+        JoinKind::Inner,
+        Expr::Literal(Value::Null),
+        left,
+        right,
+    )
+}
+
+/// Rows that a stage holds by ranges of the first column.
+fn held(alloc: Global) -> Result<Logical, Memory> {
+    let keys = first_column(alloc)?;
+    let schema = one_column(alloc)?;
+    Ok(Logical::Held {
+        stage: StageId(0),
+        place: Placement::Range(keys),
+        schema,
+    })
+}
+
+fn sampled(alloc: Global) -> Result<Logical, Memory> {
+    let child = held(alloc)?;
+    Logical::sampled(alloc, StageId(1), child)
+}
+
+fn first_item(alloc: Global) -> Result<Exprs, Memory> {
+    let mut items = Exprs::new(alloc);
+    items.push(Expr::Column(0))?;
+    Ok(items)
+}
+
+fn projected(alloc: Global) -> Result<Logical, Memory> {
+    let child = sampled(alloc)?;
+    let items = first_item(alloc)?;
+    let schema = one_column(alloc)?;
+    Logical::project(alloc, items, schema, child)
 }
 
 fn columns_of_copy(alloc: Global, plan: &Logical) -> Result<usize, Memory> {
@@ -63,11 +131,8 @@ fn columns_of_copy(alloc: Global, plan: &Logical) -> Result<usize, Memory> {
 #[test]
 fn plans_are_made_and_copied(rt: HostRuntime) -> Result<(), Memory> {
     let alloc = rt.alloc();
-    let cond = Expr::Literal(Value::Null);
-    let left = Logical::sort(alloc, first_column(alloc)?, counted(alloc)?)?;
-    let right = Logical::limit(alloc, Some(1), 0, scan(alloc)?)?;
-    let join = Logical::join(alloc, JoinKind::Inner, cond, left, right)?;
-    let columns = columns_of_copy(alloc, &join)?;
+    let plan = joined(alloc)?;
+    let columns = columns_of_copy(alloc, &plan)?;
     assert!(rt; columns == 2);
     Ok(())
 }
@@ -75,16 +140,8 @@ fn plans_are_made_and_copied(rt: HostRuntime) -> Result<(), Memory> {
 #[test]
 fn held_leaves_are_copied(rt: HostRuntime) -> Result<(), Memory> {
     let alloc = rt.alloc();
-    let held = Logical::Held {
-        stage: StageId(0),
-        place: Placement::Range(first_column(alloc)?),
-        schema: one_column(alloc)?,
-    };
-    let sampled = Logical::sampled(alloc, StageId(1), held)?;
-    let mut items = Exprs::new(alloc);
-    items.push(Expr::Column(0))?;
-    let project = Logical::project(alloc, items, one_column(alloc)?, sampled)?;
-    let columns = columns_of_copy(alloc, &project)?;
+    let plan = projected(alloc)?;
+    let columns = columns_of_copy(alloc, &plan)?;
     assert!(rt; columns == 1);
     Ok(())
 }

@@ -1,6 +1,6 @@
 -- How many parentheses and CASEs are open at a token.
-use Rattle.std.specs.Prelude.{ℕ, Bool, true, false, List, Option, Some, None, ◌<◌, ◌+◌, take, Any}
-use Rattle.std.specs.List.{count_by}
+use Rattle.std.specs.Prelude.{ℕ, Bool, true, false, List, Option, Some, None, ◌<◌, ◌+◌, take, length, Any}
+use Rattle.std.specs.List.{filter}
 use Rattle.aqe_lexer.specs.declared.token.Token.{Token}
 use Rattle.aqe_trees.specs.declared.terminal.Key.{Key}
 use Rattle.aqe_trees.specs.declared.terminal.Key.TheVariants as k
@@ -25,11 +25,11 @@ key_closes _ = false
 
 -- how many of some tokens open
 abbrev pub opened : List ℕ → List Token → ℕ
-opened source tokens = count_by (λ token. key_opens (key_of source token)) tokens
+opened source tokens = length (filter (λ token. key_opens (key_of source token)) tokens)
 
 -- how many of some tokens close
 abbrev pub closed : List ℕ → List Token → ℕ
-closed source tokens = count_by (λ token. key_closes (key_of source token)) tokens
+closed source tokens = length (filter (λ token. key_closes (key_of source token)) tokens)
 
 -- Between two semicolons, up to some token, more are opened than are closed, by more than the limit.
 abbrev pub IsOpenTooDeep : List ℕ → List Token → Type 0

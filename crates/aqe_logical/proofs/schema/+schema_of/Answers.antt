@@ -1,5 +1,4 @@
-use Rattle.std.proofs.Common.{rules, ap, sym, ◌∙◌, ◌≡◌, cond, ◌++◌, true, false}
-use Rattle.aqe_logical.specs.Columns as spec
+use Rattle.std.proofs.Common.{rules}
 use Rattle.aqe_logical.proofs.Schemas.{left_alone, both_sides}
 use Rattle.aqe_logical.proofs.schema.+schema_of.Goals as goal
 
