@@ -1,0 +1,18 @@
+use Rattle.std.proofs.Common.{sym}
+use Rattle.std.proofs.lemmas.List.{drop_all}
+use Rattle.aqe_spell.proofs.Chains.{going_begin, going_step, going_all}
+use Rattle.aqe_spell.proofs.Queries.{no_group_spelled, group_spelled}
+use Rattle.aqe_spell.proofs.Expressions.{list_step}
+use Rattle.aqe_spell.proofs.query_leaf.group.Goals as goal
+
+pub more-init : goal.more-init
+more-init c = going_begin
+
+pub more-preserved : goal.more-preserved
+more-preserved c = going_step c.in-Some.rest.now c.more.next-index c.next-item.result c.more-test.true (sym c.next-item.is) c.more.invariant (list_step c.in_ok-fixed-in-Some-3.ensures c.in_ok-or-in-Some-2.ensures)
+
+pub returns-in-None : goal.returns-in-None
+returns-in-None c = no_group_spelled c.args.keys.now c.in-None.ensures.cases
+
+pub returns-after-more : goal.returns-after-more
+returns-after-more c = rw c.in-Some.ensures.cases.0 (group_spelled c.in_ok-fixed-in-Some.ensures c.in_ok-fixed-in-Some-2.ensures c.in_ok-or-in-Some.ensures (going_all (drop_all c.more.next-index c.in-Some.rest.now c.more-test.false) c.more.invariant))

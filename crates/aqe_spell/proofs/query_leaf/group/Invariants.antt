@@ -1,0 +1,7 @@
+use Rattle.std.proofs.Common.{drop}
+use Rattle.aqe_trees.specs.Expressions.{IsListRest}
+use Rattle.aqe_spell.specs.Written.{Going}
+use Rattle.aqe_spell.proofs.query_leaf.group.Given as goal
+
+abbrev pub invariant-more : goal.invariant-more
+invariant-more l = Going (IsListRest) l.rest (drop l.next-index l.rest) l.initial.out.items l.out.items
