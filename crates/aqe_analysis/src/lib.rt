@@ -1,0 +1,6 @@
+//! Analysis of queries: names, types and grouping, and the one plan of a query.
+#![tactic(auto)]
+
+mod laws;
+
+pub use laws::{one_plan, plan_or_check};
