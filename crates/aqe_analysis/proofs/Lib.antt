@@ -6,3 +6,9 @@ pub mod Limits
 pub mod Trees
 pub mod Below
 pub mod Readings
+pub mod Sources
+pub mod Selects
+pub mod Plans
+pub mod Unions
+pub mod Queries
+pub mod QueryTrees

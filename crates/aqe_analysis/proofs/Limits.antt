@@ -82,7 +82,7 @@ pub laid-well_formed : (p : Logical) → Laid p → Bounded p → WellFormed p
 laid-well_formed p h (few, narrow) = (laid-sound p h narrow, le_trans (leaves-few p) few)
 
 -- the checks let pass what keeps the limits
-passed : {T : Type 0} (P : T → Type 0) (b : Bool) (check : Check) (next : Outcome T) → ((b ≡ true) → Gives P next) → Gives P (provided b check next)
+pub passed : {T : Type 0} (P : T → Type 0) (b : Bool) (check : Check) (next : Outcome T) → ((b ≡ true) → Gives P next) → Gives P (provided b check next)
 passed P true check next h = h refl
 passed P false check next h = tt
 

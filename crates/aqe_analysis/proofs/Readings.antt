@@ -86,7 +86,7 @@ values-read : (w n : ℕ) (all : List Reading) → All (Reads w n) all → Gives
 values-read w n all h =
     gives_each (Below n) (map (λ a. a.value) all) (All-map (Gives (Below n)) (λ a. a.value) all (All-weaker (Reads w n) (λ a. Gives (Below n) a.value) (λ a p. p.0) all h))
 
-flat-all : {X Y : Type 0} (P : Y → Type 0) (f : X → List Y) (xs : List X) → All (λ x. All P (f x)) xs → All P (flat_map f xs)
+pub flat-all : {X Y : Type 0} (P : Y → Type 0) (f : X → List Y) (xs : List X) → All (λ x. All P (f x)) xs → All P (flat_map f xs)
 flat-all P f [] h = All-nil P
 flat-all P f (x ∷ xs) h = All-append P (f x) (flat_map f xs) (All-head (λ y. All P (f y)) x xs h) (flat-all P f xs (All-tail (λ y. All P (f y)) x xs h))
 

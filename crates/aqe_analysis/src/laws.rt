@@ -1,6 +1,6 @@
 //! Laws of the definitions, each the contract of a function that does nothing.
 
-ghost use Rattle.aqe_analysis.specs.Laws.{OnePlan, PlanOrCheck};
+ghost use Rattle.aqe_analysis.specs.Laws.{OnePlan, PlanOrCheck, PlansAreClosed, PlansAreWellFormed};
 
 /// A query has at most one plan.
 pub fn one_plan()
@@ -10,4 +10,14 @@ pub fn one_plan()
 /// A query has a plan exactly where no check fails.
 pub fn plan_or_check()
     ensures { PlanOrCheck }
+{}
+
+/// The plan of a query is closed.
+pub fn plans_are_closed()
+    ensures { PlansAreClosed }
+{}
+
+/// The plan of a query is well formed.
+pub fn plans_are_well_formed()
+    ensures { PlansAreWellFormed }
 {}

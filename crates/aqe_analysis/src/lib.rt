@@ -3,4 +3,4 @@
 
 mod laws;
 
-pub use laws::{one_plan, plan_or_check};
+pub use laws::{one_plan, plan_or_check, plans_are_closed, plans_are_well_formed};
