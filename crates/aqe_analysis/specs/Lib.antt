@@ -16,4 +16,5 @@ pub mod Selects
 pub mod Plans
 pub mod Unions
 pub mod Analysis
+pub mod Faults
 pub mod Laws

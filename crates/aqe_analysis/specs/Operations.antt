@@ -23,14 +23,11 @@ use Rattle.aqe_trees.specs.declared.expression.ProductOp.{ProductOp}
 use Rattle.aqe_trees.specs.declared.expression.ProductOp.TheVariants as product
 use Rattle.aqe_trees.specs.declared.expression.Truth.{Truth}
 use Rattle.aqe_trees.specs.declared.expression.Truth.TheVariants as truth
+pub use Rattle.aqe_analysis.specs.declared.typed.Typed.{Typed}
 use Rattle.aqe_analysis.specs.Outcomes.{Check, refused, Outcome, upon, provided, present}
 use Rattle.aqe_analysis.specs.Kinds.{common, common_of_all, is_same_kind, is_number, is_truth, is_text, wider}
 
--- an expression over the columns of a row, and the type of its values
-pub record Typed : Type 0 where
-  pub expr : Expr
-  pub kind : SqlType
-
+-- an expression over the columns of a row, with the type of its values
 abbrev pub typed : Expr → SqlType → Typed
 typed expr kind = record { expr = expr; kind = kind }
 

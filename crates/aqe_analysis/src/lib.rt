@@ -1,6 +1,9 @@
 //! Analysis of queries: names, types and grouping, and the one plan of a query.
 #![tactic(auto)]
 
+mod fault;
 mod laws;
+mod typed;
 
+pub use fault::AnalysisFault;
 pub use laws::{one_plan, plan_or_check, plans_are_closed, plans_are_well_formed};
