@@ -10,7 +10,7 @@ use Rattle.aqe_analysis.specs.Outcomes.{Outcome, upon}
 use Rattle.aqe_analysis.specs.Equality.{same_expr}
 use Rattle.aqe_analysis.specs.Grouping.{from_key, call_behind, grouped, grouped_list, grouped_pairs}
 use Rattle.aqe_analysis.proofs.Gives.{Gives, gives_upon}
-use Rattle.aqe_analysis.proofs.Operations.{either_one}
+use Rattle.aqe_analysis.proofs.OperationsBelow.{either_one}
 
 from_key-below : (w : ℕ) (keys : List Expr) (n : ℕ) (e : Expr) (other : Outcome Expr) → n + length keys ≤ w →
     Gives (ColumnsBelow w) other → Gives (ColumnsBelow w) (from_key keys n e other)

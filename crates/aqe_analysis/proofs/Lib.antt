@@ -1,6 +1,6 @@
 pub mod Outcomes
 pub mod Gives
-pub mod Operations
+pub mod OperationsBelow
 pub mod Grouping
 pub mod Limits
 pub mod Trees
@@ -12,3 +12,4 @@ pub mod Plans
 pub mod Unions
 pub mod Queries
 pub mod QueryTrees
+pub mod Steps

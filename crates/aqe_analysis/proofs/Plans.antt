@@ -22,7 +22,7 @@ use Rattle.aqe_analysis.specs.Sources.{numbered, over}
 use Rattle.aqe_analysis.specs.Selects.{Output, field, at_position}
 use Rattle.aqe_analysis.specs.Plans.{nameless, aggregate_fields, groups_of, filtered_by, fields_of, projected_to, columns_up_to, distinct_rows, distinct_if, Sorting, shown, hidden, is_over, shown_value, hidden_value, sorting, sortings, hidden_columns, key, keys_of, sorted_by, without_hidden, hidden_output, shown_columns, no_hidden, ordered}
 use Rattle.aqe_analysis.proofs.Gives.{Gives, IfAny, gives_upon, gives_each}
-use Rattle.aqe_analysis.proofs.Operations.{Below, either_one}
+use Rattle.aqe_analysis.proofs.OperationsBelow.{Below, either_one}
 use Rattle.aqe_analysis.proofs.Below.{below_more}
 use Rattle.aqe_analysis.proofs.Readings.{ColumnFits, CallFits, read-fits}
 use Rattle.aqe_analysis.proofs.Sources.{Whole, numbered-fit, numbered-length, over-fits}

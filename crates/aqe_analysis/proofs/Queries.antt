@@ -21,7 +21,7 @@ use Rattle.aqe_analysis.specs.Plans.{groups_of, filtered_by, fields_of, projecte
 use Rattle.aqe_analysis.specs.Unions.{union_of}
 use Rattle.aqe_analysis.specs.Analysis.{Selected, plan_of, hide, sorted_plan, select_parts, calls_if, select_over, Core, unite_all, union_rule, bounded, cut}
 use Rattle.aqe_analysis.proofs.Gives.{Gives, IfAny, gives_upon, gives_all, gives_weaker, gives_if_any}
-use Rattle.aqe_analysis.proofs.Operations.{Below}
+use Rattle.aqe_analysis.proofs.OperationsBelow.{Below}
 use Rattle.aqe_analysis.proofs.Below.{below_more}
 use Rattle.aqe_analysis.proofs.Readings.{ColumnFits, CallFits, Fits, read-fits}
 use Rattle.aqe_analysis.proofs.Sources.{Whole, whole-items, whole-length, over-fits, condition-below, FromFits, numbered-fit, numbered-length, kept-laid}

@@ -16,8 +16,8 @@ use Rattle.aqe_analysis.specs.Readings.{alike, Named, Alias, Call, Place, Readin
 use Rattle.aqe_trees.specs.declared.expression.OrTree.{OrTree}
 use Rattle.aqe_analysis.specs.Expressions.{read}
 use Rattle.aqe_analysis.proofs.Gives.{Gives, IfAny, gives_upon, gives_all, gives_provided, gives_each, gives_if_any, gives_only}
-use Rattle.aqe_analysis.proofs.Operations as below
-use Rattle.aqe_analysis.proofs.Operations.{Below, ArmBelow, either_one}
+use Rattle.aqe_analysis.proofs.OperationsBelow as below
+use Rattle.aqe_analysis.proofs.OperationsBelow.{Below, ArmBelow, either_one}
 use Rattle.aqe_analysis.proofs.Below.{below_more}
 use Rattle.aqe_analysis.proofs.Trees.{Keeps, made_of-keeps}
 

@@ -20,7 +20,7 @@ use Rattle.aqe_analysis.specs.Grouping.{grouped}
 use Rattle.aqe_analysis.specs.Sources.{Item, columns_of, over, condition}
 use Rattle.aqe_analysis.specs.Selects.{Output, output, at, alias_of, with_aliases, all_columns, is_named, columns_of_all, Spread, column, expression, spread_item, spread, spread_value, output_name, column_output, item_outputs, outputs, nth, at_position, group_key, group_keys, without, once, calls_of_item, calls_of_having, calls_of_sorts, calls_of, built_of_groups, built, having_condition}
 use Rattle.aqe_analysis.proofs.Gives.{Gives, IfAny, gives_upon, gives_all, gives_provided, gives_each}
-use Rattle.aqe_analysis.proofs.Operations.{Below, either_one}
+use Rattle.aqe_analysis.proofs.OperationsBelow.{Below, either_one}
 use Rattle.aqe_analysis.proofs.Below.{below_more}
 use Rattle.aqe_analysis.proofs.Grouping.{grouped-below}
 use Rattle.aqe_analysis.proofs.Readings.{ColumnFits, AliasFits, CallFits, Fits, Reads, Good, read-fits, flat-all}

@@ -22,7 +22,7 @@ use Rattle.aqe_analysis.specs.Limits.{within_limits}
 use Rattle.aqe_analysis.specs.QueryForms.{Step}
 use Rattle.aqe_analysis.specs.Sources.{Catalog, Item, From, item, from_of, numbered, columns_from, columns_of, over, condition, table_named, scanned, table_source, query_source, join_condition, joined_items, join, join_all, cross_all, from_all, kept}
 use Rattle.aqe_analysis.proofs.Gives.{Gives, gives_upon, gives_provided}
-use Rattle.aqe_analysis.proofs.Operations.{Below}
+use Rattle.aqe_analysis.proofs.OperationsBelow.{Below}
 use Rattle.aqe_analysis.proofs.Below.{below_more}
 use Rattle.aqe_analysis.proofs.Readings.{ColumnFits, AliasFits, Fits, Reads, read-fits}
 use Rattle.aqe_analysis.proofs.Limits.{Laid, Bounded, within-bounded}

@@ -130,16 +130,19 @@ in_list a all = upon (common_kind (a ∷ all)) (λ kind.
 abbrev pub like : Typed → Typed → Outcome Typed
 like a pattern = provided (is_text a.kind && is_text pattern.kind) mismatch (Ok (typed (binary_of binary.Like a.expr pattern.expr) sql.Boolean))
 
--- IS NULL takes each type; IS TRUE and IS FALSE want a BOOLEAN
+-- IS NULL takes each type; IS TRUE, IS FALSE and NOT want a BOOLEAN
+abbrev pub on_truth : UnaryOp → Typed → Outcome Typed
+on_truth op a = provided (is_truth a.kind) mismatch (Ok (typed (unary_of op a.expr) sql.Boolean))
+
 abbrev pub is_operation : Truth → Typed → Outcome Typed
 is_operation truth.Null a = Ok (typed (unary_of unary.IsNull a.expr) sql.Boolean)
-is_operation truth.True a = provided (is_truth a.kind) mismatch (Ok (typed (unary_of unary.IsTrue a.expr) sql.Boolean))
-is_operation truth.False a = provided (is_truth a.kind) mismatch (Ok (typed (unary_of unary.IsFalse a.expr) sql.Boolean))
+is_operation truth.True a = on_truth unary.IsTrue a
+is_operation truth.False a = on_truth unary.IsFalse a
 
--- NOT, AND and OR want BOOLEANs
 abbrev pub negation : Typed → Outcome Typed
-negation a = provided (is_truth a.kind) mismatch (Ok (typed (unary_of unary.Not a.expr) sql.Boolean))
+negation a = on_truth unary.Not a
 
+-- AND and OR want BOOLEANs
 abbrev pub logical : BinaryOp → Typed → Typed → Outcome Typed
 logical op a b = provided (is_truth a.kind && is_truth b.kind) mismatch (Ok (typed (binary_of op a.expr b.expr) sql.Boolean))
 

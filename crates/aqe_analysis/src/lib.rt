@@ -3,6 +3,7 @@
 
 mod fault;
 mod laws;
+mod operations;
 mod typed;
 
 pub use fault::AnalysisFault;
