@@ -13,3 +13,5 @@ pub mod Unions
 pub mod Queries
 pub mod QueryTrees
 pub mod Steps
+pub mod Comparing
+pub mod KnownAnswers

@@ -122,9 +122,11 @@ tested-below n (Some kind) a h = converted-below n kind a h
 
 pairs-below : (n : ℕ) (tested : Option SqlType) (gives : SqlType) (arms : List (Typed × Typed)) → All (ArmBelow n) arms → PairsBelow n (case_pairs tested gives arms)
 pairs-below n tested gives [] h = tt
-pairs-below n tested gives (arm ∷ arms) h =
-    (tested-below n tested arm.0 (All-head (ArmBelow n) arm arms h).0, converted-below n gives arm.1 (All-head (ArmBelow n) arm arms h).1,
-    pairs-below n tested gives arms (All-tail (ArmBelow n) arm arms h))
+pairs-below n tested gives (arm ∷ arms) h = (
+  tested-below n tested arm.0 (All-head (ArmBelow n) arm arms h).0,
+  converted-below n gives arm.1 (All-head (ArmBelow n) arm arms h).1,
+  pairs-below n tested gives arms (All-tail (ArmBelow n) arm arms h),
+)
 
 pub case-below : (n : ℕ) (a : Option Typed) (arms : List (Typed × Typed)) (otherwise : Option Typed) →
     IfAny (Below n) a → All (ArmBelow n) arms → IfAny (Below n) otherwise → Gives (Below n) (case a arms otherwise)

@@ -50,11 +50,15 @@ aggregate_fields-length keys calls =
 
 pub groups-laid : (b : Bool) (keys : List Typed) (calls : List Call) (w : ℕ) (plan : Logical) → Has w plan → All (Below w) keys → All (CallFits w) calls →
     Has (after b keys calls w) (groups_of b keys calls plan)
-groups-laid true keys calls w plan (h, e) k l =
-    ((h, omega (arith, aggregate_fields-length keys calls, length-map keys (λ k. k.expr), length-map calls (λ c. c.call)),
+groups-laid true keys calls w plan (h, e) k l = (
+  (
+    h,
+    omega (arith, aggregate_fields-length keys calls, length-map keys (λ k. k.expr), length-map calls (λ c. c.call)),
     All-map (ColumnsBelow (width plan)) (λ k. k.expr) keys (subst (λ n. All (Below n) keys) (sym e) k),
-    All-map (λ call. ColumnsBelow (width plan) call.arg) (λ c. c.call) calls (subst (λ n. All (CallFits n) calls) (sym e) l)),
-    aggregate_fields-length keys calls)
+    All-map (λ call. ColumnsBelow (width plan) call.arg) (λ c. c.call) calls (subst (λ n. All (CallFits n) calls) (sym e) l),
+  ),
+  aggregate_fields-length keys calls,
+)
 groups-laid false keys calls w plan h k l = h
 
 pub filtered-laid : (m : ℕ) (a : Option Typed) (plan : Logical) → Has m plan → IfAny (Below m) a → Has m (filtered_by a plan)
@@ -62,10 +66,14 @@ filtered-laid m None plan h k = h
 filtered-laid m (Some a) plan (h, e) k = ((h, subst (λ n. ColumnsBelow n a.expr) (sym e) k), e)
 
 pub projected-laid : (m : ℕ) (outputs : List Output) (plan : Logical) → Has m plan → All (OutputFits m) outputs → Has (length outputs) (projected_to outputs plan)
-projected-laid m outputs plan (h, e) k =
-    ((h, omega (arith, fields-length outputs, length-map outputs (λ o. o.value.expr)),
-    All-map (ColumnsBelow (width plan)) (λ o. o.value.expr) outputs (subst (λ n. All (OutputFits n) outputs) (sym e) k)),
-    fields-length outputs)
+projected-laid m outputs plan (h, e) k = (
+  (
+    h,
+    omega (arith, fields-length outputs, length-map outputs (λ o. o.value.expr)),
+    All-map (ColumnsBelow (width plan)) (λ o. o.value.expr) outputs (subst (λ n. All (OutputFits n) outputs) (sym e) k),
+  ),
+  fields-length outputs,
+)
 
 pub distinct-laid : (fields : List Field) (plan : Logical) → Laid plan → length fields ≤ width plan → Has (length fields) (distinct_rows fields plan)
 distinct-laid fields plan h le =
@@ -123,9 +131,11 @@ sorted-laid m (first ∷ rest) plan (h, e) k = ((h, subst (λ n. KeysBelow n (fi
 
 pub without-laid : (m : ℕ) (more : List Typed) (outputs : List Output) (plan : Logical) → Has m plan → length outputs ≤ m → Laid (without_hidden more outputs plan)
 without-laid m [] outputs plan h le = h.0
-without-laid m (a ∷ more) outputs plan (h, e) le =
-    (h, omega (arith, columns_up_to-length 0 (fields_of outputs)),
-    columns_up_to-below (width plan) 0 (fields_of outputs) (omega (arith, fields-length outputs, le, e)))
+without-laid m (a ∷ more) outputs plan (h, e) le = (
+  h,
+  omega (arith, columns_up_to-length 0 (fields_of outputs)),
+  columns_up_to-below (width plan) 0 (fields_of outputs) (omega (arith, fields-length outputs, le, e)),
+)
 
 -- a plan that shows its own columns alone
 pub ordered-laid : (sorts : List SortTree) (plan : Logical) → Laid plan → Gives Laid (ordered sorts plan)

@@ -44,7 +44,7 @@ distinct-has : (d : Bool) (outputs more : List Output) (plan : Logical) → Has 
     Has (length outputs + length more) (distinct_if d (fields_of outputs) plan)
 distinct-has true outputs more plan (h, e) none =
     let d : Has (length (fields_of outputs)) (distinct_if true (fields_of outputs) plan) =
-        distinct-laid (fields_of outputs) plan h (omega (arith, fields-length outputs, length-append outputs more, e)) in
+    distinct-laid (fields_of outputs) plan h (omega (arith, fields-length outputs, length-append outputs more, e)) in
     (d.0, omega (arith, d.1, fields-length outputs, none refl))
 distinct-has false outputs more plan (h, e) none = (h, omega (arith, e, length-append outputs more))
 
@@ -86,9 +86,9 @@ sorted_plan-laid s calls sorts fits ruled fit =
     let hs : All (HiddenFits s calls) (hidden_columns all) = hidden-all (length (shown_columns s.outputs)) (HiddenFits s calls) all p in
     let count : length (map hidden_output (hidden_columns all)) ≡ length (hidden_columns all) = length-map (hidden_columns all) hidden_output in
     let plan : Has (length s.outputs + length (map hidden_output (hidden_columns all))) (plan_of s calls (map hidden_output (hidden_columns all))) =
-        plan_of-has s calls (map hidden_output (hidden_columns all)) fits fit
-        (All-map (OutputFits (under s calls)) hidden_output (hidden_columns all) (All-weaker (HiddenFits s calls) (Below (under s calls)) (λ a q. q.0) (hidden_columns all) hs))
-        (no_hidden-distinct s calls (hidden_columns all) hs) in
+    plan_of-has s calls (map hidden_output (hidden_columns all)) fits fit
+    (All-map (OutputFits (under s calls)) hidden_output (hidden_columns all) (All-weaker (HiddenFits s calls) (Below (under s calls)) (λ a q. q.0) (hidden_columns all) hs))
+    (no_hidden-distinct s calls (hidden_columns all) hs) in
     without-laid (length s.outputs + length (map hidden_output (hidden_columns all))) (hidden_columns all) s.outputs
     (sorted_by (keys_of (length s.outputs) all sorts) (plan_of s calls (map hidden_output (hidden_columns all))))
     (sorted-laid (length s.outputs + length (map hidden_output (hidden_columns all))) (keys_of (length s.outputs) all sorts) (plan_of s calls (map hidden_output (hidden_columns all))) plan

@@ -76,18 +76,20 @@ walk-done : (t : QueryTree) → QueryFits (walk t)
 walk-done = ind-QueryTree
     (λ t. CoreFits (of_core t)) (λ t. SourceFits (of_source t)) (λ t. StepFits (of_step t)) (λ t. SourceFits (of_joined t)) (λ t. QueryFits (of_query t)) (λ t. CoreFits (of_select t)) (λ t. CoreFits (of_union t))
     (λ x. elim [
-        CoreTree-F.«CoreTree::Paren» q ↦ λ is. rw (fold-roll-CoreTree Core S (Step S) S Q Core Core (core_level rules) (source_level rules) (step_level rules) (joined_level rules) (query_level rules) (select_level rules) (union_level rules) x, sym is) (paren-laid (of_query q.0) (λ catalog. done-laid (of_query q.0 catalog) (q.1 catalog)))
-      | CoreTree-F.Select s ↦ λ is. rw (fold-roll-CoreTree Core S (Step S) S Q Core Core (core_level rules) (source_level rules) (step_level rules) (joined_level rules) (query_level rules) (select_level rules) (union_level rules) x, sym is) (s.1) ])
+      | CoreTree-F.«CoreTree::Paren» q ↦ λ is. rw (fold-roll-CoreTree Core S (Step S) S Q Core Core (core_level rules) (source_level rules) (step_level rules) (joined_level rules) (query_level rules) (select_level rules) (union_level rules) x, sym is) (paren-laid (of_query q.0) (λ catalog. done-laid (of_query q.0 catalog) (q.1 catalog)))
+      | CoreTree-F.Select s ↦ λ is. rw (fold-roll-CoreTree Core S (Step S) S Q Core Core (core_level rules) (source_level rules) (step_level rules) (joined_level rules) (query_level rules) (select_level rules) (union_level rules) x, sym is) (s.1)
+    ])
     (λ x. elim [
-        SourceTree-F.Table name alias ↦ λ is. rw (fold-roll-SourceTree Core S (Step S) S Q Core Core (core_level rules) (source_level rules) (step_level rules) (joined_level rules) (query_level rules) (select_level rules) (union_level rules) x, sym is) (table-fits name alias)
-      | SourceTree-F.«SourceTree::Paren» q alias ↦ λ is. rw (fold-roll-SourceTree Core S (Step S) S Q Core Core (core_level rules) (source_level rules) (step_level rules) (joined_level rules) (query_level rules) (select_level rules) (union_level rules) x, sym is) (λ catalog. query-fits alias (of_query q.0 catalog) (done-laid (of_query q.0 catalog) (q.1 catalog))) ])
+      | SourceTree-F.Table name alias ↦ λ is. rw (fold-roll-SourceTree Core S (Step S) S Q Core Core (core_level rules) (source_level rules) (step_level rules) (joined_level rules) (query_level rules) (select_level rules) (union_level rules) x, sym is) (table-fits name alias)
+      | SourceTree-F.«SourceTree::Paren» q alias ↦ λ is. rw (fold-roll-SourceTree Core S (Step S) S Q Core Core (core_level rules) (source_level rules) (step_level rules) (joined_level rules) (query_level rules) (select_level rules) (union_level rules) x, sym is) (λ catalog. query-fits alias (of_query q.0 catalog) (done-laid (of_query q.0 catalog) (q.1 catalog)))
+    ])
     (λ x y is. rw (fold-roll-JoinStep Core S (Step S) S Q Core Core (core_level rules) (source_level rules) (step_level rules) (joined_level rules) (query_level rules) (select_level rules) (union_level rules) x, sym is) (y.source.1))
     (λ x y is. rw (fold-roll-JoinedTree Core S (Step S) S Q Core Core (core_level rules) (source_level rules) (step_level rules) (joined_level rules) (query_level rules) (select_level rules) (union_level rules) x, sym is) (λ catalog. join_all-fits catalog (of_source y.first.0 catalog) (map of_step (map (λ e. e.0) y.rest)) (y.first.1 catalog) (proved StepFits (λ t. StepFits (of_step t)) of_step (λ t p. p) y.rest)))
     (λ x y is. rw (fold-roll-QueryTree Core S (Step S) S Q Core Core (core_level rules) (source_level rules) (step_level rules) (joined_level rules) (query_level rules) (select_level rules) (union_level rules) x, sym is) (λ catalog. query-done (of_union y.body.0) y.order y.limit y.offset catalog y.body.1))
     (λ x y is. rw (fold-roll-SelectTree Core S (Step S) S Q Core Core (core_level rules) (source_level rules) (step_level rules) (joined_level rules) (query_level rules) (select_level rules) (union_level rules) x, sym is) (λ catalog sorts.
-        gives_upon FromFits Laid (from_all catalog (map of_joined (map (λ e. e.0) y.from))) (select_over y.distinct y.items (not (is_empty (map of_joined (map (λ e. e.0) y.from)))) y.filter y.group y.having sorts)
-        (from_all-fits catalog (map of_joined (map (λ e. e.0) y.from)) (proved SourceFits (λ t. SourceFits (of_joined t)) of_joined (λ t p. p) y.from))
-        (λ from fits. select_over-laid y.distinct y.items (not (is_empty (map of_joined (map (λ e. e.0) y.from)))) y.filter y.group y.having sorts from fits)))
+    gives_upon FromFits Laid (from_all catalog (map of_joined (map (λ e. e.0) y.from))) (select_over y.distinct y.items (not (is_empty (map of_joined (map (λ e. e.0) y.from)))) y.filter y.group y.having sorts)
+    (from_all-fits catalog (map of_joined (map (λ e. e.0) y.from)) (proved SourceFits (λ t. SourceFits (of_joined t)) of_joined (λ t p. p) y.from))
+    (λ from fits. select_over-laid y.distinct y.items (not (is_empty (map of_joined (map (λ e. e.0) y.from)))) y.filter y.group y.having sorts from fits)))
     (λ x y is. rw (fold-roll-UnionTree Core S (Step S) S Q Core Core (core_level rules) (source_level rules) (step_level rules) (joined_level rules) (query_level rules) (select_level rules) (union_level rules) x, sym is) (union_rule-laid (of_core y.first.0) (map (behind of_core) (map (behind (tree_in (λ t. CoreFits (of_core t)))) y.rest)) y.first.1 (next_proved y.rest)))
 
 given : (P : Logical → Type 0) (o : Outcome Logical) (p : Logical) → Gives P o → o ≡ Ok p → P p

@@ -69,18 +69,21 @@ one-reads w n a rule h (k, calls) = (gives_upon (Below n) (Below n) a.value rule
 
 two-reads : (w n : ℕ) (a b : Reading) (rule : Typed → Typed → Outcome Typed) → ((x y : Typed) → Below n x → Below n y → Gives (Below n) (rule x y)) →
     Reads w n a → Reads w n b → Reads w n (on_two a b rule)
-two-reads w n a b rule h (k, calls) (l, more) =
-    (gives_upon (Below n) (Below n) a.value (λ x. upon b.value (rule x)) k (λ x p.
-    gives_upon (Below n) (Below n) b.value (rule x) l (λ y q. h x y p q)), All-append (CallFits w) a.calls b.calls calls more)
+two-reads w n a b rule h (k, calls) (l, more) = (
+  gives_upon (Below n) (Below n) a.value (λ x. upon b.value (rule x)) k (λ x p.
+      gives_upon (Below n) (Below n) b.value (rule x) l (λ y q. h x y p q)),
+  All-append (CallFits w) a.calls b.calls calls more,
+)
 
 three-reads : (w n : ℕ) (a b c : Reading) (rule : Typed → Typed → Typed → Outcome Typed) →
     ((x y z : Typed) → Below n x → Below n y → Below n z → Gives (Below n) (rule x y z)) →
     Reads w n a → Reads w n b → Reads w n c → Reads w n (on_three a b c rule)
-three-reads w n a b c rule h (k, calls) (l, more) (m, most) =
-    (gives_upon (Below n) (Below n) a.value (λ x. upon b.value (λ y. upon c.value (rule x y))) k (λ x p.
-    gives_upon (Below n) (Below n) b.value (λ y. upon c.value (rule x y)) l (λ y q.
-    gives_upon (Below n) (Below n) c.value (rule x y) m (λ z r. h x y z p q r))),
-    All-append (CallFits w) (a.calls ++ b.calls) c.calls (All-append (CallFits w) a.calls b.calls calls more) most)
+three-reads w n a b c rule h (k, calls) (l, more) (m, most) = (
+  gives_upon (Below n) (Below n) a.value (λ x. upon b.value (λ y. upon c.value (rule x y))) k (λ x p.
+      gives_upon (Below n) (Below n) b.value (λ y. upon c.value (rule x y)) l (λ y q.
+      gives_upon (Below n) (Below n) c.value (rule x y) m (λ z r. h x y z p q r))),
+  All-append (CallFits w) (a.calls ++ b.calls) c.calls (All-append (CallFits w) a.calls b.calls calls more) most,
+)
 
 values-read : (w n : ℕ) (all : List Reading) → All (Reads w n) all → Gives (All (Below n)) (values all)
 values-read w n all h =
@@ -100,10 +103,11 @@ all-reads w n all rule h k = (gives_upon (All (Below n)) (Below n) (values all) 
 one_and_all-reads : (w n : ℕ) (a : Reading) (all : List Reading) (rule : Typed → List Typed → Outcome Typed) →
     ((x : Typed) (xs : List Typed) → Below n x → All (Below n) xs → Gives (Below n) (rule x xs)) →
     Reads w n a → All (Reads w n) all → Reads w n (on_one_and_all a all rule)
-one_and_all-reads w n a all rule h (k, calls) l =
-    (gives_upon (Below n) (Below n) a.value (λ x. upon (values all) (rule x)) k (λ x p.
-    gives_upon (All (Below n)) (Below n) (values all) (rule x) (values-read w n all l) (λ xs q. h x xs p q)),
-    All-append (CallFits w) a.calls (calls_in all) calls (calls-read w n all l))
+one_and_all-reads w n a all rule h (k, calls) l = (
+  gives_upon (Below n) (Below n) a.value (λ x. upon (values all) (rule x)) k (λ x p.
+      gives_upon (All (Below n)) (Below n) (values all) (rule x) (values-read w n all l) (λ xs q. h x xs p q)),
+  All-append (CallFits w) a.calls (calls_in all) calls (calls-read w n all l),
+)
 
 abbrev ArmReads : ℕ → ℕ → (Reading × Reading) → Type 0
 ArmReads w n arm = Reads w n arm.0 × Reads w n arm.1
@@ -123,15 +127,16 @@ if_any-calls w n (Some r) (h, c) = c
 
 case-reads : (w n : ℕ) (a : Option Reading) (arms : List (Reading × Reading)) (e : Option Reading) →
     IfAny (Reads w n) a → All (ArmReads w n) arms → IfAny (Reads w n) e → Reads w n (case_reading a arms e)
-case-reads w n a arms e h k l =
-    (gives_upon (IfAny (Below n)) (Below n) (value_if_any a) (λ x. upon (each (map arm_value arms)) (λ all. upon (value_if_any e) (λ y. operation.case x all y))) (if_any-value w n a h) (λ x p.
-    gives_upon (All (ArmBelow n)) (Below n) (each (map arm_value arms)) (λ all. upon (value_if_any e) (λ y. operation.case x all y))
-    (gives_each (ArmBelow n) (map arm_value arms) (All-map (Gives (ArmBelow n)) arm_value arms (All-weaker (ArmReads w n) (λ arm. Gives (ArmBelow n) (arm_value arm)) (λ arm q. arm-reads w n arm q) arms k))) (λ all q.
-    gives_upon (IfAny (Below n)) (Below n) (value_if_any e) (λ y. operation.case x all y) (if_any-value w n e l) (λ y r. below.case-below n x all y p q r))),
-    All-append (CallFits w) (calls_if_any a ++ flat_map (λ arm. (arm.0).calls ++ (arm.1).calls) arms) (calls_if_any e)
-    (All-append (CallFits w) (calls_if_any a) (flat_map (λ arm. (arm.0).calls ++ (arm.1).calls) arms) (if_any-calls w n a h)
-    (flat-all (CallFits w) (λ arm. (arm.0).calls ++ (arm.1).calls) arms
-    (All-weaker (ArmReads w n) (λ arm. All (CallFits w) ((arm.0).calls ++ (arm.1).calls)) (λ arm q. All-append (CallFits w) (arm.0).calls (arm.1).calls (q.0).1 (q.1).1) arms k))) (if_any-calls w n e l))
+case-reads w n a arms e h k l = (
+  gives_upon (IfAny (Below n)) (Below n) (value_if_any a) (λ x. upon (each (map arm_value arms)) (λ all. upon (value_if_any e) (λ y. operation.case x all y))) (if_any-value w n a h) (λ x p.
+      gives_upon (All (ArmBelow n)) (Below n) (each (map arm_value arms)) (λ all. upon (value_if_any e) (λ y. operation.case x all y))
+      (gives_each (ArmBelow n) (map arm_value arms) (All-map (Gives (ArmBelow n)) arm_value arms (All-weaker (ArmReads w n) (λ arm. Gives (ArmBelow n) (arm_value arm)) (λ arm q. arm-reads w n arm q) arms k))) (λ all q.
+      gives_upon (IfAny (Below n)) (Below n) (value_if_any e) (λ y. operation.case x all y) (if_any-value w n e l) (λ y r. below.case-below n x all y p q r))),
+  All-append (CallFits w) (calls_if_any a ++ flat_map (λ arm. (arm.0).calls ++ (arm.1).calls) arms) (calls_if_any e)
+      (All-append (CallFits w) (calls_if_any a) (flat_map (λ arm. (arm.0).calls ++ (arm.1).calls) arms) (if_any-calls w n a h)
+      (flat-all (CallFits w) (λ arm. (arm.0).calls ++ (arm.1).calls) arms
+      (All-weaker (ArmReads w n) (λ arm. All (CallFits w) ((arm.0).calls ++ (arm.1).calls)) (λ arm q. All-append (CallFits w) (arm.0).calls (arm.1).calls (q.0).1 (q.1).1) arms k))) (if_any-calls w n e l),
+)
 
 -- aggregate calls
 call_value-below : (m : ℕ) (name : List ℕ) (call : Call) (n : ℕ) (calls : List Call) → n + length calls ≤ m → Gives (Below m) (call_value name call n calls)
@@ -155,11 +160,12 @@ argument_value-below w n name all h = gives_upon (All (Below n)) (Below n) (valu
 
 aggregate-reads : (w : ℕ) (name : List ℕ) (fun : AggFun) (place : Place) (all : List Reading) → w ≡ length place.columns → All (Reads w w) all →
     Reads w (w + length place.calls) (aggregate_reading name fun place all)
-aggregate-reads w name fun place all e h =
-    (gives_upon (Below w) (Below (w + length place.calls)) (argument_value name all) (aggregate_value name fun place) (argument_value-below w w name all h) (λ a p.
-    gives_provided (Below (w + length place.calls)) (takes fun a.kind) mismatch (call_value name (call_of fun a) (length place.columns) place.calls)
-    (call_value-below (w + length place.calls) name (call_of fun a) (length place.columns) place.calls (omega (arith, e)))),
-    call_made-fits w fun (argument_value name all) (argument_value-below w w name all h))
+aggregate-reads w name fun place all e h = (
+  gives_upon (Below w) (Below (w + length place.calls)) (argument_value name all) (aggregate_value name fun place) (argument_value-below w w name all h) (λ a p.
+      gives_provided (Below (w + length place.calls)) (takes fun a.kind) mismatch (call_value name (call_of fun a) (length place.columns) place.calls)
+      (call_value-below (w + length place.calls) name (call_of fun a) (length place.columns) place.calls (omega (arith, e)))),
+  call_made-fits w fun (argument_value name all) (argument_value-below w w name all h),
+)
 
 function-below : (n : ℕ) (name : List ℕ) (xs : List Typed) → All (Below n) xs → Gives (Below n) (function_value name xs)
 function-below n name [] h = tt
@@ -235,7 +241,7 @@ reading-keeps = record {
   is = λ truth a h place fits. one-reads (w_of place) (n_of place) (a place) (operation.is_operation truth) (λ x p. below.is-below (n_of place) truth x p) (h place fits);
   negation = λ a h place fits. one-reads (w_of place) (n_of place) (a place) operation.negation (λ x p. below.negation-below (n_of place) x p) (h place fits);
   both = λ a b h k place fits. two-reads (w_of place) (n_of place) (a place) (b place) (operation.logical binary.And) (λ x y p q. below.logical-below (n_of place) binary.And x y p q) (h place fits) (k place fits);
-  either = λ a b h k place fits. two-reads (w_of place) (n_of place) (a place) (b place) (operation.logical binary.Or) (λ x y p q. below.logical-below (n_of place) binary.Or x y p q) (h place fits) (k place fits)
+  either = λ a b h k place fits. two-reads (w_of place) (n_of place) (a place) (b place) (operation.logical binary.Or) (λ x y p q. below.logical-below (n_of place) binary.Or x y p q) (h place fits) (k place fits);
 }
 
 pub read-fits : (tree : OrTree) → Good (read tree)

@@ -61,9 +61,10 @@ cast-columns-below m n (k ∷ ks) (f ∷ fs) fits =
 side-laid : (kinds : List SqlType) (plan : Logical) → Laid plan → length kinds ≡ width plan → Has (width plan) (cast_side kinds plan)
 side-laid kinds plan h e =
     either_one (Has (width plan)) (has_kinds kinds (schema_of plan)) plan (projected (cast_columns 0 kinds (schema_of plan)) (cast_fields kinds (schema_of plan)) plan)
-    (h, refl)
-    ((h, cast-columns-length 0 kinds (schema_of plan), cast-columns-below (width plan) 0 kinds (schema_of plan) (omega arith)),
-    cast-fields-length kinds (schema_of plan) e)
+    (h, refl) (
+      (h, cast-columns-length 0 kinds (schema_of plan), cast-columns-below (width plan) 0 kinds (schema_of plan) (omega arith)),
+      cast-fields-length kinds (schema_of plan) e,
+    )
 
 pub distinct_if-laid : (distinct : Bool) (fields : List Field) (plan : Logical) → Laid plan → length fields ≤ width plan → Laid (distinct_if distinct fields plan)
 distinct_if-laid true fields plan h le = (distinct-laid fields plan h le).0

@@ -70,7 +70,7 @@ calls_if false items list having sorts = []
 abbrev pub select_over : Bool → List ItemTree → Bool → Option OrTree → List OrTree → Option OrTree → List SortTree → From → Outcome Logical
 select_over distinct list has_from filter group having sorts from =
     upon (select_parts distinct list has_from filter group having (is_grouped list group having sorts)
-        (calls_if (is_grouped list group having sorts) from.items list having sorts) from) (λ s.
+    (calls_if (is_grouped list group having sorts) from.items list having sorts) from) (λ s.
     upon (within_limits (plan_of s (calls_if s.is_grouped from.items list having []) [])) (λ plan.
     sorted_plan s (calls_if s.is_grouped from.items list having sorts) sorts))
 
@@ -105,7 +105,7 @@ rules = record {
       upon (from_all catalog from) (select_over distinct list (not (is_empty from)) filter group having sorts);
   joined = λ first steps catalog. join_all catalog (first catalog) steps;
   table = λ name alias catalog. table_source name alias catalog;
-  subquery = λ query alias catalog. query_source alias (query catalog)
+  subquery = λ query alias catalog. query_source alias (query catalog);
 }
 
 -- what the walk over a query comes to

@@ -16,10 +16,9 @@ common sql.BigInt sql.BigInt = Some sql.BigInt
 common sql.Text sql.Text = Some sql.Text
 common a b = None
 
--- the common type of several
-abbrev pub common_of_all : List SqlType → Option SqlType
-common_of_all [] = Some sql.NullType
-common_of_all (a ∷ rest) = option_and_then (common a) (common_of_all rest)
+-- the common type of some and one more
+abbrev pub common_with : Option SqlType → SqlType → Option SqlType
+common_with so_far kind = option_and_then (λ a. common a kind) so_far
 
 abbrev pub is_same_kind : SqlType → SqlType → Bool
 is_same_kind sql.NullType sql.NullType = true

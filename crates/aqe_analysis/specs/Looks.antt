@@ -41,7 +41,7 @@ mentions = record {
   is = λ truth a. a;
   negation = λ a. a;
   both = λ a b. a ++ b;
-  either = λ a b. a ++ b
+  either = λ a b. a ++ b;
 }
 
 abbrev pub is_aggregate : Mention → Bool
@@ -77,5 +77,5 @@ alone = record {
   is = λ truth a. something;
   negation = λ a. something;
   both = λ a b. something;
-  either = λ a b. something
+  either = λ a b. something;
 }

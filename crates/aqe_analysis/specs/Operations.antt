@@ -1,5 +1,5 @@
 -- Expressions with their types, and the operations on them: what each asks of the types of its operands, and what it gives.
-use Rattle.std.specs.Prelude.{ℕ, zero, ℤ, pos, ◌^◌, ◌-◌, min, max, Bool, true, false, not, cond, ◌&&◌, ◌||◌, List, [], ◌∷◌, ◌++◌, map, Option, Some, None, Ok, Err}
+use Rattle.std.specs.Prelude.{ℕ, zero, ℤ, pos, ◌^◌, ◌-◌, min, max, Bool, true, false, not, cond, ◌&&◌, ◌||◌, List, [], ◌∷◌, ◌++◌, map, Option, Some, None, fold, Ok, Err}
 use Rattle.std.specs.List.{list_all}
 use Rattle.aqe_base.specs.declared.status.AnalysisKind.TheVariants.{TypeMismatch}
 use Rattle.aqe_values.specs.declared.sql_type.SqlType.{SqlType}
@@ -25,7 +25,7 @@ use Rattle.aqe_trees.specs.declared.expression.Truth.{Truth}
 use Rattle.aqe_trees.specs.declared.expression.Truth.TheVariants as truth
 pub use Rattle.aqe_analysis.specs.declared.typed.Typed.{Typed}
 use Rattle.aqe_analysis.specs.Outcomes.{Check, refused, Outcome, upon, provided, present}
-use Rattle.aqe_analysis.specs.Kinds.{common, common_of_all, is_same_kind, is_number, is_truth, is_text, wider}
+use Rattle.aqe_analysis.specs.Kinds.{common, common_with, is_same_kind, is_number, is_truth, is_text, wider}
 
 -- an expression over the columns of a row, with the type of its values
 abbrev pub typed : Expr → SqlType → Typed
@@ -70,13 +70,12 @@ converted wanted a = cond (is_same_kind a.kind wanted) a.expr (cast_to wanted a.
 abbrev pub cast : SqlType → Typed → Typed
 cast wanted a = typed (cast_to wanted a.expr) wanted
 
--- the kinds of expressions
-abbrev pub kinds : List Typed → List SqlType
-kinds all = map (λ a. a.kind) all
+-- the common type of several, taken from left to right; they must have one
+abbrev pub common_of_all : List Typed → Option SqlType
+common_of_all all = fold (λ so_far a. common_with so_far a.kind) (Some sql.NullType) all
 
--- all of them have one common type
 abbrev pub common_kind : List Typed → Outcome SqlType
-common_kind all = present (common_of_all (kinds all)) mismatch
+common_kind all = present (common_of_all all) mismatch
 
 -- `+ a` leaves no operation behind, `- a` does; both want a number
 abbrev pub signed_by : Sign → Expr → Expr

@@ -91,7 +91,7 @@ on_two a b rule = record { value = upon a.value (λ x. upon b.value (rule x)); c
 abbrev pub on_three : Reading → Reading → Reading → (Typed → Typed → Typed → Outcome Typed) → Reading
 on_three a b c rule = record {
   value = upon a.value (λ x. upon b.value (λ y. upon c.value (rule x y)));
-  calls = a.calls ++ b.calls ++ c.calls
+  calls = a.calls ++ b.calls ++ c.calls;
 }
 
 abbrev pub values : List Reading → Outcome (List Typed)
@@ -106,7 +106,7 @@ on_all all rule = record { value = upon (values all) rule; calls = calls_in all 
 abbrev pub on_one_and_all : Reading → List Reading → (Typed → List Typed → Outcome Typed) → Reading
 on_one_and_all a all rule = record {
   value = upon a.value (λ x. upon (values all) (rule x));
-  calls = a.calls ++ calls_in all
+  calls = a.calls ++ calls_in all;
 }
 
 abbrev pub calls_if_any : Option Reading → List Call
@@ -121,7 +121,7 @@ arm_value arm = upon (arm.0).value (λ test. upon (arm.1).value (λ gives. Ok (t
 abbrev pub case_reading : Option Reading → List (Reading × Reading) → Option Reading → Reading
 case_reading operand arms otherwise = record {
   value = upon (value_if_any operand) (λ a. upon (each (map arm_value arms)) (λ all. upon (value_if_any otherwise) (λ e. operation.case a all e)));
-  calls = calls_if_any operand ++ flat_map (λ arm. (arm.0).calls ++ (arm.1).calls) arms ++ calls_if_any otherwise
+  calls = calls_if_any operand ++ flat_map (λ arm. (arm.0).calls ++ (arm.1).calls) arms ++ calls_if_any otherwise;
 }
 
 -- Aggregate calls.
@@ -183,7 +183,7 @@ argument_value name all = upon (values all) (the_argument name)
 abbrev pub aggregate_reading : List ℕ → AggFun → Place → List Reading → Reading
 aggregate_reading name fun place all = record {
   value = upon (argument_value name all) (aggregate_value name fun place);
-  calls = call_made fun (argument_value name all)
+  calls = call_made fun (argument_value name all);
 }
 
 -- `count(*)` counts a literal that is not NULL
@@ -226,5 +226,5 @@ readings = record {
   is = λ truth a place. on_one (a place) (operation.is_operation truth);
   negation = λ a place. on_one (a place) operation.negation;
   both = λ a b place. on_two (a place) (b place) (operation.logical binary.And);
-  either = λ a b place. on_two (a place) (b place) (operation.logical binary.Or)
+  either = λ a b place. on_two (a place) (b place) (operation.logical binary.Or);
 }

@@ -91,7 +91,6 @@ join kind on left right =
     upon (join_condition on (left.items ++ right.items)) (λ on.
     upon (within_limits (joined kind on left.plan right.plan)) (λ plan. Ok (from_of plan (joined_items kind left.items right.items))))
 
-
 -- each source is joined to what stands before it
 abbrev pub join_all : Catalog → Outcome From → List (Step (Catalog → Outcome From)) → Outcome From
 join_all catalog left [] = left

@@ -8,10 +8,7 @@ use std::alloc::{AllocError, AllocFailed};
 #[derive(Debug, Drop)]
 pub enum AnalysisFault {
     /// A check of names, types or grouping, with the name that it is about; empty where it is about none.
-    Refused {
-        kind: AnalysisKind,
-        name: Text,
-    },
+    Refused { kind: AnalysisKind, name: Text },
     /// A plan has more than 256 operators.
     TooManyOperators,
     /// A node of a plan has more than 256 columns.

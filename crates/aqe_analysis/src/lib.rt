@@ -4,6 +4,8 @@
 mod fault;
 mod laws;
 mod operations;
+#[cfg(test)]
+mod tests;
 mod typed;
 
 pub use fault::AnalysisFault;

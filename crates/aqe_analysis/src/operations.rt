@@ -1,15 +1,17 @@
 //! The operations on expressions with their types: what each asks of its operands, and what it gives.
 
-ghost use Rattle.std.specs.Prelude.{◌≡◌, ◌≤◌, IfOk, length};
+ghost use Rattle.std.specs.Prelude.{◌≡◌, ◌≤◌, ◌∷◌, [], IfOk, length};
 ghost use Rattle.aqe_values.specs.Bounds.{text_limit};
 ghost use Rattle.aqe_analysis.specs.Operations as spec;
 ghost use Rattle.aqe_analysis.specs.Outcomes as outcomes;
 ghost use Rattle.aqe_analysis.specs.Faults.{Tells, Says};
 
 use crate::AnalysisFault;
-use crate::typed::{Typed, is_number, is_same_kind, is_text, is_truth, wider};
+use crate::typed::{
+    Typed, common, common_of_all, common_with, is_number, is_same_kind, is_text, is_truth, wider,
+};
 use aqe_base::AnalysisKind;
-use aqe_expr::{BinaryOp, Expr, UnaryOp};
+use aqe_expr::{BinaryOp, Expr, Operands, UnaryOp};
 use aqe_trees::{CompareOp, ProductOp, Sign, Truth};
 use aqe_values::{Memory, SqlType, Text, Value};
 use std::alloc::Global;
@@ -159,6 +161,126 @@ fn comparing(op: CompareOp) -> BinaryOp
         CompareOp::AtMost => BinaryOp::Le,
         CompareOp::Greater => BinaryOp::Gt,
         CompareOp::AtLeast => BinaryOp::Ge,
+    }
+}
+
+/// Comparing two operands.
+#[tactic(auto, using(crate::proofs::Comparing::with_common))]
+pub(crate) fn comparison(
+    alloc: Global,
+    op: CompareOp,
+    a: Typed,
+    b: Typed,
+) -> Result<Typed, AnalysisFault>
+    ensures { Says result (spec.comparison op a b) }
+{
+    match common(a.kind, b.kind) {
+        Some(kind) => {
+            let left = converted(alloc, kind, a)?;
+            let right = converted(alloc, kind, b)?;
+            let expr = Expr::binary(alloc, comparing(op), left, right)?;
+            Ok(Typed {
+                expr,
+                kind: SqlType::Boolean,
+            })
+        }
+        None => Err(mismatch(alloc)),
+    }
+}
+
+/// The common type of three.
+fn common_of_three(a: &Typed, b: &Typed, c: &Typed) -> Option<SqlType>
+    ensures { result ≡ spec.common_of_all (a.now ∷ b.now ∷ c.now ∷ []) }
+{
+    match common(a.kind, b.kind) {
+        Some(kind) => common(kind, c.kind),
+        None => None,
+    }
+}
+
+/// `a BETWEEN low AND high`
+#[tactic(auto, using(crate::proofs::Comparing::with_common))]
+pub(crate) fn between(
+    alloc: Global,
+    a: Typed,
+    low: Typed,
+    high: Typed,
+) -> Result<Typed, AnalysisFault>
+    ensures { Says result (spec.between a low high) }
+{
+    match common_of_three(&a, &low, &high) {
+        Some(kind) => {
+            let a = converted(alloc, kind, a)?;
+            let low = converted(alloc, kind, low)?;
+            let high = converted(alloc, kind, high)?;
+            let expr = Expr::between(alloc, a, low, high)?;
+            Ok(Typed {
+                expr,
+                kind: SqlType::Boolean,
+            })
+        }
+        None => Err(mismatch(alloc)),
+    }
+}
+
+/// The chain of the expressions, each converted.
+#[tactic(auto, using(crate::proofs::Comparing::behind_push, crate::proofs::Comparing::all_behind))]
+fn operands(alloc: Global, kind: SqlType, all: Vec<Typed>) -> Result<Operands, Memory>
+    ensures { IfOk result (λ l. l ≡ spec.operands kind all.items) }
+{
+    let mut all = all;
+    let mut chain = Operands::End;
+    'all: while let Some(a) = all.pop() {
+        let item = converted(alloc, kind, a)?;
+        chain = Operands::more(alloc, item, chain)?;
+    }
+    Ok(chain)
+}
+
+/// `coalesce(..)`
+#[tactic(auto, using(crate::proofs::Comparing::with_common))]
+pub(crate) fn coalesce(alloc: Global, all: Vec<Typed>) -> Result<Typed, AnalysisFault>
+    ensures { Says result (spec.coalesce all.items) }
+{
+    match common_of_all(all.as_slice()) {
+        Some(kind) => {
+            let list = operands(alloc, kind, all)?;
+            Ok(Typed {
+                expr: Expr::Coalesce(list),
+                kind,
+            })
+        }
+        None => Err(mismatch(alloc)),
+    }
+}
+
+/// The common type of a value and of a list.
+fn common_with_list(a: &Typed, all: &[Typed]) -> Option<SqlType>
+    ensures { result ≡ spec.common_of_all (a.now ∷ all.now) }
+{
+    let mut so_far = Some(a.kind);
+    'all: for b in all {
+        so_far = common_with(so_far, b.kind);
+    }
+    so_far
+}
+
+/// `a IN (..)`
+#[tactic(auto, using(crate::proofs::Comparing::with_common))]
+pub(crate) fn in_list(alloc: Global, a: Typed, all: Vec<Typed>) -> Result<Typed, AnalysisFault>
+    ensures { Says result (spec.in_list a all.items) }
+{
+    match common_with_list(&a, all.as_slice()) {
+        Some(kind) => {
+            let value = converted(alloc, kind, a)?;
+            let list = operands(alloc, kind, all)?;
+            let expr = Expr::one_of(alloc, value, list)?;
+            Ok(Typed {
+                expr,
+                kind: SqlType::Boolean,
+            })
+        }
+        None => Err(mismatch(alloc)),
     }
 }
 

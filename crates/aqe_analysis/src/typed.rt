@@ -2,6 +2,7 @@
 
 ghost use Rattle.std.specs.Prelude.{◌≡◌};
 ghost use Rattle.aqe_analysis.specs.Kinds as kinds;
+ghost use Rattle.aqe_analysis.specs.Operations as operations;
 
 use aqe_expr::Expr;
 use aqe_values::SqlType;
@@ -25,6 +26,27 @@ pub(crate) fn common(a: SqlType, b: SqlType) -> Option<SqlType>
     }
 }
 
+/// The common type of all.
+pub(crate) fn common_of_all(all: &[Typed]) -> Option<SqlType>
+    ensures { result ≡ operations.common_of_all all.now }
+{
+    let mut so_far = Some(SqlType::NullType);
+    'all: for a in all {
+        so_far = common_with(so_far, a.kind);
+    }
+    so_far
+}
+
+/// The common type of those so far and one more.
+pub(crate) fn common_with(so_far: Option<SqlType>, kind: SqlType) -> Option<SqlType>
+    ensures { result ≡ kinds.common_with so_far kind }
+{
+    match so_far {
+        Some(a) => common(a, kind),
+        None => None,
+    }
+}
+
 /// Whether two types are the same.
 pub(crate) fn is_same_kind(a: SqlType, b: SqlType) -> bool
     ensures { result ≡ kinds.is_same_kind a b }
@@ -36,10 +58,7 @@ pub(crate) fn is_same_kind(a: SqlType, b: SqlType) -> bool
 pub(crate) fn is_number(kind: SqlType) -> bool
     ensures { result ≡ kinds.is_number kind }
 {
-    matches!(
-        kind,
-        SqlType::NullType | SqlType::Int | SqlType::BigInt
-    )
+    matches!(kind, SqlType::NullType | SqlType::Int | SqlType::BigInt)
 }
 
 /// Whether a value of the type may stand where a BOOLEAN is wanted.

@@ -1,0 +1,93 @@
+//! Operations with ample memory.
+
+use crate::AnalysisFault;
+use crate::operations::{between, cast, coalesce, comparison, in_list, like, sum_operation};
+use crate::typed::Typed;
+use aqe_base::AnalysisKind;
+use aqe_expr::{BinaryOp, Expr, UnaryOp};
+use aqe_trees::{CompareOp, Sign};
+use aqe_values::SqlType;
+
+fn column(number: u32, kind: SqlType) -> Typed {
+    Typed {
+        expr: Expr::Column(number),
+        kind,
+    }
+}
+
+#[test]
+fn an_int_is_cast_where_it_meets_a_bigint(rt: HostRuntime) -> Result<(), AnalysisFault> {
+    let alloc = rt.alloc();
+    let compared = comparison(
+        alloc,
+        CompareOp::Less,
+        column(0, SqlType::Int),
+        column(1, SqlType::BigInt),
+    )?;
+    assert!(rt; matches!(compared.kind, SqlType::Boolean));
+    match compared.expr {
+        Expr::Binary {
+            op: BinaryOp::Lt,
+            left,
+            ..
+        } => {
+            assert!(rt;
+                matches!(
+                    left.get(),
+                    Expr::Unary {
+                        op: UnaryOp::CastBigInt,
+                        ..
+                    }
+                )
+            );
+        }
+        _ => assert!(rt; false),
+    }
+    Ok(())
+}
+
+#[test]
+fn texts_do_not_add(rt: HostRuntime) -> Result<(), AnalysisFault> {
+    let refused = sum_operation(
+        rt.alloc(),
+        Sign::Plus,
+        column(0, SqlType::Int),
+        column(1, SqlType::Text),
+    );
+    assert!(rt;
+        matches!(
+            refused,
+            Err(AnalysisFault::Refused {
+                kind: AnalysisKind::TypeMismatch,
+                ..
+            })
+        )
+    );
+    Ok(())
+}
+
+#[test]
+fn other_operations_succeed(rt: HostRuntime) -> Result<(), AnalysisFault> {
+    let alloc = rt.alloc();
+    let found = between(
+        alloc,
+        column(0, SqlType::Int),
+        column(1, SqlType::NullType),
+        column(2, SqlType::Int),
+    )?;
+    assert!(rt; matches!(found.expr, Expr::Between { .. }));
+    let text = cast(alloc, SqlType::Text, column(0, SqlType::Int))?;
+    let alike = like(alloc, text, column(1, SqlType::Text))?;
+    assert!(rt; matches!(alike.kind, SqlType::Boolean));
+    let mut list = Vec::new(alloc);
+    list.push(column(1, SqlType::Int))?;
+    list.push(column(2, SqlType::BigInt))?;
+    let one = in_list(alloc, column(0, SqlType::Int), list)?;
+    assert!(rt; matches!(one.expr, Expr::OneOf { .. }));
+    let mut all = Vec::new(alloc);
+    all.push(column(0, SqlType::NullType))?;
+    all.push(column(1, SqlType::Int))?;
+    let first = coalesce(alloc, all)?;
+    assert!(rt; matches!(first.kind, SqlType::Int));
+    Ok(())
+}
