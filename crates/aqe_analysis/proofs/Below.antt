@@ -1,6 +1,5 @@
 -- An expression over some columns is one over more.
-use Rattle.std.proofs.Common.{ℕ, ◌<◌, ◌≤◌, lt_of_lt_of_le}
-use Rattle.aqe_values.specs.declared.value.Value.{Value}
+use Rattle.std.proofs.Common.{ℕ, ◌≤◌, lt_of_lt_of_le}
 use Rattle.aqe_expr.specs.declared.expr.Expr.{Expr, Column, Literal, Coalesce}
 use Rattle.aqe_expr.specs.declared.expr.Operands as list
 use Rattle.aqe_expr.specs.declared.expr.CasePairs as pairs

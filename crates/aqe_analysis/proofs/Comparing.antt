@@ -1,5 +1,5 @@
 -- Operations whose operands have one common type, as the code makes them.
-use Rattle.std.proofs.Common.{◌≡◌, List, [], ◌∷◌, ◌++◌, map, Option, Some, None, Ok, Err, refl, ap, ◌∙◌}
+use Rattle.std.proofs.Common.{◌≡◌, List, [], ◌∷◌, ◌++◌, map, Some, None, Ok, refl, ap, ◌∙◌}
 use Rattle.aqe_values.specs.declared.sql_type.SqlType.{SqlType}
 use Rattle.aqe_values.specs.declared.sql_type.SqlType.TheVariants as sql
 use Rattle.aqe_expr.specs.declared.expr.Expr.{Expr, Coalesce}

@@ -1,8 +1,8 @@
 -- What holds of the value that a step of the walk gives, where it gives one.
-use Rattle.std.proofs.Common.{◌≡◌, ℕ, Bool, true, false, List, [], ◌∷◌, map, Option, Some, None, Ok, Err, option_map}
+use Rattle.std.proofs.Common.{ℕ, Bool, true, false, List, [], ◌∷◌, Option, Some, None, Ok, Err}
 use Rattle.std.specs.Prelude.{All}
 use Rattle.std.proofs.lemmas.List.Elements.{All-nil, All-cons, All-head, All-tail}
-use Rattle.aqe_analysis.specs.Outcomes.{Check, Outcome, upon, each, if_any, provided, present, the_only}
+use Rattle.aqe_analysis.specs.Outcomes.{Check, Outcome, upon, each, if_any, provided, the_only}
 
 abbrev pub Gives : {T : Type 0} → (T → Type 0) → Outcome T → Type 0
 Gives P (Ok t) = P t

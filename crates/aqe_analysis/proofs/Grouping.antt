@@ -1,6 +1,5 @@
 -- Expressions of a grouped query read the keys and the calls alone.
-use Rattle.std.proofs.Common.{◌≡◌, ℕ, zero, suc, ◌+◌, ◌<◌, ◌≤◌, Bool, true, false, cond, List, [], ◌∷◌, length, Ok, Err, arith}
-use Rattle.aqe_values.specs.declared.value.Value.{Value}
+use Rattle.std.proofs.Common.{ℕ, zero, suc, ◌+◌, ◌<◌, ◌≤◌, List, [], ◌∷◌, length, Ok, arith}
 use Rattle.aqe_expr.specs.declared.expr.Expr.{Expr, Column, Literal, Coalesce}
 use Rattle.aqe_expr.specs.declared.expr.Operands as list
 use Rattle.aqe_expr.specs.declared.expr.CasePairs as pairs

@@ -1,14 +1,13 @@
 -- Small known answers: a check of the definitions by hand.
-use Rattle.std.proofs.Common.{◌≡◌, ℕ, List, [], ◌∷◌, refl, Bool, true, false, Option, Some, None, Ok, Err, codes, decimal, pos}
+use Rattle.std.proofs.Common.{◌≡◌, ℕ, List, [], ◌∷◌, refl, Bool, true, false, Some, None, Ok, Err, codes, decimal, pos}
 use Rattle.aqe_base.specs.declared.status.AnalysisKind.TheVariants.{NoSuchTable, NoSuchColumn, Ambiguous, TypeMismatch, NotGrouped, BadPosition, UnionWidth, NestedAggregate}
 use Rattle.aqe_base.specs.declared.join_kind.JoinKind.TheVariants.{Cross}
 use Rattle.aqe_values.specs.declared.schema.Field.{Field}
-use Rattle.aqe_values.specs.declared.sql_type.SqlType.{SqlType}
 use Rattle.aqe_values.specs.declared.sql_type.SqlType.TheVariants as sql
 use Rattle.aqe_values.specs.declared.value.Value.TheVariants as value
 use Rattle.aqe_expr.specs.declared.expr.UnaryOp.TheVariants as unary
 use Rattle.aqe_expr.specs.declared.expr.BinaryOp.TheVariants as binary
-use Rattle.aqe_expr.specs.declared.expr.Expr.{Expr, Column, Literal}
+use Rattle.aqe_expr.specs.declared.expr.Expr.{Column, Literal}
 use Rattle.aqe_expr.specs.Shapes.{unary_of, binary_of}
 use Rattle.aqe_logical.specs.declared.plan.Logical.{Logical, Scan}
 use Rattle.aqe_logical.specs.Shapes.{projected, joined, aggregated, limited}
@@ -19,7 +18,7 @@ use Rattle.aqe_analysis.specs.Outcomes.{Outcome, refused}
 use Rattle.aqe_analysis.specs.Operations.{typed}
 use Rattle.aqe_analysis.specs.Readings.{Place, Reading, readings}
 use Rattle.aqe_analysis.specs.Grouping.{grouped}
-use Rattle.aqe_analysis.specs.Sources.{Catalog, From, Item, item, columns_of, over}
+use Rattle.aqe_analysis.specs.Sources.{Catalog, From, item, columns_of, over}
 use Rattle.aqe_analysis.specs.Selects.{field, at, at_position}
 use Rattle.aqe_analysis.specs.Unions.{union_of}
 use Rattle.aqe_analysis.specs.Analysis.{Core, rules}

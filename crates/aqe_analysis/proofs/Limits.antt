@@ -1,5 +1,5 @@
 -- A plan that is laid out right and keeps the limits is well formed.
-use Rattle.std.proofs.Common.{◌≡◌, ℕ, ◌+◌, ◌<◌, ◌≤◌, max, Bool, true, false, List, length, Option, Some, None, Ok, Err, arith, sym, subst, ◌∙◌, refl, le_trans, leb-true}
+use Rattle.std.proofs.Common.{◌≡◌, ◌+◌, ◌≤◌, Bool, true, false, length, Ok, arith, refl, le_trans, leb-true}
 use Rattle.std.specs.Prelude.{nat_le}
 use Rattle.aqe_expr.specs.Columns.{ColumnsBelow}
 use Rattle.aqe_logical.specs.declared.plan.Logical.{Logical, OneRow, Scan, Empty, Held, HeldPartial}

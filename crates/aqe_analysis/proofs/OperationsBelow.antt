@@ -1,15 +1,15 @@
 -- Operations read no other columns than their operands.
-use Rattle.std.proofs.Common.{◌≡◌, ℕ, Bool, true, false, cond, not, ◌&&◌, List, [], ◌∷◌, ◌++◌, map, Option, Some, None, Ok, Err}
+use Rattle.std.proofs.Common.{ℕ, Bool, true, false, cond, not, ◌&&◌, List, [], ◌∷◌, map, Option, Some, None, Ok}
 use Rattle.std.specs.Prelude.{All}
 use Rattle.std.specs.List.{list_all}
-use Rattle.std.proofs.lemmas.List.Elements.{All-nil, All-cons, All-head, All-tail}
+use Rattle.std.proofs.lemmas.List.Elements.{All-head, All-tail}
 use Rattle.aqe_values.specs.declared.sql_type.SqlType.{SqlType}
 use Rattle.aqe_values.specs.declared.sql_type.SqlType.TheVariants as sql
 use Rattle.aqe_values.specs.declared.value.Value.TheVariants as value
 use Rattle.aqe_expr.specs.declared.expr.BinaryOp.{BinaryOp}
 use Rattle.aqe_expr.specs.declared.expr.BinaryOp.TheVariants as binary
 use Rattle.aqe_expr.specs.declared.expr.Expr.{Expr, Literal, Coalesce}
-use Rattle.aqe_expr.specs.Shapes.{unary_of, binary_of, between_of, one_of, case_of, switch_of, operand, pair}
+use Rattle.aqe_expr.specs.Shapes.{binary_of, between_of, one_of, case_of, switch_of}
 use Rattle.aqe_expr.specs.Columns.{ColumnsBelow, EachBelow, PairsBelow}
 use Rattle.aqe_expr.specs.Casts.{fits_int}
 use Rattle.aqe_trees.specs.declared.expression.CompareOp.{CompareOp}
@@ -19,7 +19,7 @@ use Rattle.aqe_trees.specs.declared.expression.ProductOp.{ProductOp}
 use Rattle.aqe_trees.specs.declared.expression.ProductOp.TheVariants as product
 use Rattle.aqe_trees.specs.declared.expression.Truth.{Truth}
 use Rattle.aqe_trees.specs.declared.expression.Truth.TheVariants as truth
-use Rattle.aqe_analysis.specs.Outcomes.{Check, Outcome, upon, provided, present}
+use Rattle.aqe_analysis.specs.Outcomes.{Outcome, upon}
 use Rattle.aqe_analysis.specs.Kinds.{is_same_kind, is_number, is_truth, is_text, wider}
 use Rattle.aqe_analysis.specs.Operations.{Typed, typed, mismatch, nearest, number, cast_to, converted, cast, common_kind, signed_by, signed_operation, arithmetic, product_operation, sum_operation, comparing, comparison, between, operands, in_list, like, is_operation, negation, logical, otherwise_of, results, tested_as, case_pairs, case, coalesce, length_of}
 use Rattle.aqe_analysis.proofs.Gives.{Gives, IfAny, gives_upon, gives_all, gives_provided}

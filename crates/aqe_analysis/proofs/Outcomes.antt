@@ -1,8 +1,7 @@
 -- A walk comes to one plan, or to a check.
-use Rattle.std.proofs.Common.{◌≡◌, ◌↔◌, Option, Some, None, Ok, Err, refl, sym, ◌∙◌}
+use Rattle.std.proofs.Common.{◌≡◌, ◌↔◌, None, Ok, Err, refl}
 use Rattle.std.specs.Result.{result_err}
-use Rattle.aqe_logical.specs.declared.plan.Logical.{Logical}
-use Rattle.aqe_analysis.specs.Outcomes.{Check, Outcome}
+use Rattle.aqe_analysis.specs.Outcomes.{Outcome}
 use Rattle.aqe_analysis.specs.Analysis.{walk}
 use Rattle.aqe_analysis.specs.Laws.{OnePlan, PlanOrCheck}
 

@@ -1,26 +1,25 @@
 -- The plan of a SELECT with its ORDER BY is laid out right.
-use Rattle.std.proofs.Common.{◌≡◌, ℕ, zero, suc, ◌+◌, ◌<◌, ◌≤◌, Bool, true, false, cond, List, [], ◌∷◌, ◌++◌, map, length, Option, Some, None, Ok, Err, arith, refl, sym, ap, subst, ◌∙◌, length-append}
+use Rattle.std.proofs.Common.{◌≡◌, ℕ, suc, ◌+◌, ◌≤◌, Bool, true, false, cond, List, [], ◌∷◌, map, length, Option, Some, None, Ok, arith, refl, sym, ap, subst, length-append}
 use Rattle.std.specs.Prelude.{All}
 use Rattle.std.proofs.lemmas.List.{length-map}
-use Rattle.std.proofs.lemmas.List.Elements.{All-nil, All-cons, All-head, All-tail, All-append, All-map, All-weaker}
+use Rattle.std.proofs.lemmas.List.Elements.{All-nil, All-cons, All-head, All-tail, All-map}
 use Rattle.aqe_values.specs.declared.schema.Field.{Field}
-use Rattle.aqe_expr.specs.declared.expr.Expr.{Expr, Column}
+use Rattle.aqe_expr.specs.declared.expr.Expr.{Column}
 use Rattle.aqe_expr.specs.Columns.{ColumnsBelow}
 use Rattle.aqe_logical.specs.declared.plan.SortKey.{SortKey}
 use Rattle.aqe_logical.specs.declared.plan.Logical.{Logical}
-use Rattle.aqe_logical.specs.Shapes.{sorted}
 use Rattle.aqe_logical.specs.Columns.{schema_of, width}
 use Rattle.aqe_logical.specs.WellFormed.{ItemsBelow, KeysBelow}
 use Rattle.aqe_trees.specs.declared.expression.OrTree.{OrTree}
 use Rattle.aqe_trees.specs.declared.query.SortTree.{SortTree}
-use Rattle.aqe_analysis.specs.Outcomes.{Outcome, upon, each}
+use Rattle.aqe_analysis.specs.Outcomes.{Outcome}
 use Rattle.aqe_analysis.specs.Operations.{Typed}
 use Rattle.aqe_analysis.specs.Readings.{Named, Call}
 use Rattle.aqe_analysis.specs.Looks.{Alone, a_number, a_column, something}
 use Rattle.aqe_analysis.specs.Expressions.{read, alone_of}
 use Rattle.aqe_analysis.specs.Sources.{numbered, over}
 use Rattle.aqe_analysis.specs.Selects.{Output, field, at_position}
-use Rattle.aqe_analysis.specs.Plans.{nameless, aggregate_fields, groups_of, filtered_by, fields_of, projected_to, columns_up_to, distinct_rows, distinct_if, Sorting, shown, hidden, is_over, shown_value, hidden_value, sorting, sortings, hidden_columns, key, keys_of, sorted_by, without_hidden, hidden_output, shown_columns, no_hidden, ordered}
+use Rattle.aqe_analysis.specs.Plans.{nameless, aggregate_fields, groups_of, filtered_by, fields_of, projected_to, columns_up_to, distinct_rows, Sorting, shown, hidden, is_over, shown_value, hidden_value, sorting, sortings, hidden_columns, key, keys_of, sorted_by, without_hidden, no_hidden, ordered}
 use Rattle.aqe_analysis.proofs.Gives.{Gives, IfAny, gives_upon, gives_each}
 use Rattle.aqe_analysis.proofs.OperationsBelow.{Below, either_one}
 use Rattle.aqe_analysis.proofs.Below.{below_more}

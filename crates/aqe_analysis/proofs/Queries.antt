@@ -1,11 +1,10 @@
 -- The plan of a query is laid out right and keeps the limits.
-use Rattle.std.proofs.Common.{◌≡◌, ℕ, zero, suc, ◌+◌, ◌-◌, ◌^◌, ◌<◌, ◌≤◌, min, Bool, true, false, cond, List, [], ◌∷◌, ◌++◌, map, length, Option, Some, None, Ok, Err, option_map, arith, refl, sym, ap, subst, ◌∙◌, length-append}
+use Rattle.std.proofs.Common.{◌≡◌, ℕ, ◌+◌, Bool, true, false, cond, List, [], ◌∷◌, ◌++◌, map, length, Option, Some, None, Ok, option_map, arith, refl, sym, subst, ◌∙◌, length-append}
 use Rattle.std.specs.Prelude.{All}
 use Rattle.std.proofs.lemmas.List.{length-map}
-use Rattle.std.proofs.lemmas.List.Elements.{All-nil, All-cons, All-head, All-tail, All-append, All-map, All-weaker}
+use Rattle.std.proofs.lemmas.List.Elements.{All-nil, All-head, All-tail, All-append, All-map, All-weaker}
 use Rattle.aqe_expr.specs.Columns.{ColumnsBelow}
 use Rattle.aqe_logical.specs.declared.plan.Logical.{Logical}
-use Rattle.aqe_logical.specs.Columns.{schema_of, width}
 use Rattle.aqe_logical.specs.WellFormed.{IsLimitCount, IsLimitNumber}
 use Rattle.aqe_trees.specs.declared.expression.OrTree.{OrTree}
 use Rattle.aqe_trees.specs.declared.query.ItemTree.{ItemTree}
@@ -16,14 +15,14 @@ use Rattle.aqe_analysis.specs.Readings.{Named, Call, Place}
 use Rattle.aqe_analysis.specs.Expressions.{read}
 use Rattle.aqe_analysis.specs.Limits.{within_limits}
 use Rattle.aqe_analysis.specs.Sources.{Catalog, Item, From, columns_of, over, condition, kept}
-use Rattle.aqe_analysis.specs.Selects.{Output, at, with_aliases, outputs, group_keys, is_grouped, calls_of, built, having_condition}
-use Rattle.aqe_analysis.specs.Plans.{groups_of, filtered_by, fields_of, projected_to, distinct_if, Sorting, sortings, hidden_columns, keys_of, sorted_by, without_hidden, hidden_output, shown_columns, no_hidden, ordered}
+use Rattle.aqe_analysis.specs.Selects.{Output, at, with_aliases, outputs, group_keys, is_grouped, built, having_condition}
+use Rattle.aqe_analysis.specs.Plans.{groups_of, filtered_by, fields_of, projected_to, distinct_if, sortings, hidden_columns, keys_of, sorted_by, without_hidden, hidden_output, shown_columns, no_hidden, ordered}
 use Rattle.aqe_analysis.specs.Unions.{union_of}
 use Rattle.aqe_analysis.specs.Analysis.{Selected, plan_of, hide, sorted_plan, select_parts, calls_if, select_over, Core, unite_all, union_rule, bounded, cut}
 use Rattle.aqe_analysis.proofs.Gives.{Gives, IfAny, gives_upon, gives_all, gives_weaker, gives_if_any}
 use Rattle.aqe_analysis.proofs.OperationsBelow.{Below}
 use Rattle.aqe_analysis.proofs.Below.{below_more}
-use Rattle.aqe_analysis.proofs.Readings.{ColumnFits, CallFits, Fits, read-fits}
+use Rattle.aqe_analysis.proofs.Readings.{ColumnFits, CallFits, read-fits}
 use Rattle.aqe_analysis.proofs.Sources.{Whole, whole-items, whole-length, over-fits, condition-below, FromFits, numbered-fit, numbered-length, kept-laid}
 use Rattle.aqe_analysis.proofs.Selects.{OutputFits, at-fits, aliases-fit, group_keys-below, outputs-fit, having-below, after, Ruled, built-below, calls-fit}
 use Rattle.aqe_analysis.proofs.Plans.{Has, fields-length, groups-laid, filtered-laid, projected-laid, distinct-laid, SortingFits, sortings-fit, hidden-all, keys-below, sorted-laid, without-laid, ordered-laid}

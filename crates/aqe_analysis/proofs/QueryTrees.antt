@@ -1,25 +1,24 @@
 -- Each query's plan keeps what its rules keep.
-use Rattle.std.proofs.Common.{◌≡◌, ℕ, List, [], ◌∷◌, map, Bool, not, Option, Some, None, Ok, Err, sym, refl, subst}
+use Rattle.std.proofs.Common.{◌≡◌, List, [], ◌∷◌, map, Bool, not, Ok, sym, subst}
 use Rattle.std.specs.Prelude.{All}
 use Rattle.std.proofs.lemmas.List.Elements.{All-nil, All-cons}
 use Rattle.aqe_logical.specs.declared.plan.Logical.{Logical}
-use Rattle.aqe_logical.specs.WellFormed.{Closed, WellFormed}
-use Rattle.aqe_trees.specs.declared.query.QueryTree.{QueryTree, QueryTree-F, fold-QueryTree, ind-QueryTree, fold-roll-QueryTree}
-use Rattle.aqe_trees.specs.declared.query.UnionTree.{UnionTree, UnionTree-F, fold-UnionTree, fold-roll-UnionTree}
+use Rattle.aqe_trees.specs.declared.query.QueryTree.{QueryTree, fold-QueryTree, ind-QueryTree, fold-roll-QueryTree}
+use Rattle.aqe_trees.specs.declared.query.UnionTree.{UnionTree, fold-UnionTree, fold-roll-UnionTree}
 use Rattle.aqe_trees.specs.declared.query.CoreTree.{CoreTree, CoreTree-F, fold-CoreTree, fold-roll-CoreTree}
-use Rattle.aqe_trees.specs.declared.query.SelectTree.{SelectTree, SelectTree-F, fold-SelectTree, fold-roll-SelectTree}
-use Rattle.aqe_trees.specs.declared.query.JoinedTree.{JoinedTree, JoinedTree-F, fold-JoinedTree, fold-roll-JoinedTree}
-use Rattle.aqe_trees.specs.declared.query.JoinStep.{JoinStep, JoinStep-F, fold-JoinStep, fold-roll-JoinStep}
+use Rattle.aqe_trees.specs.declared.query.SelectTree.{SelectTree, fold-SelectTree, fold-roll-SelectTree}
+use Rattle.aqe_trees.specs.declared.query.JoinedTree.{JoinedTree, fold-JoinedTree, fold-roll-JoinedTree}
+use Rattle.aqe_trees.specs.declared.query.JoinStep.{JoinStep, fold-JoinStep, fold-roll-JoinStep}
 use Rattle.aqe_trees.specs.declared.query.SourceTree.{SourceTree, SourceTree-F, fold-SourceTree, fold-roll-SourceTree}
-use Rattle.aqe_analysis.specs.Outcomes.{Outcome, upon}
-use Rattle.aqe_analysis.specs.QueryForms.{QueryForms, Step}
-use Rattle.aqe_analysis.specs.QueryTrees.{core_level, source_level, step_level, joined_level, query_level, select_level, union_level, made_of_query}
-use Rattle.aqe_analysis.specs.Sources.{Catalog, From, from_all, join_all}
+use Rattle.aqe_analysis.specs.Outcomes.{Outcome}
+use Rattle.aqe_analysis.specs.QueryForms.{Step}
+use Rattle.aqe_analysis.specs.QueryTrees.{core_level, source_level, step_level, joined_level, query_level, select_level, union_level}
+use Rattle.aqe_analysis.specs.Sources.{Catalog, From, from_all}
 use Rattle.aqe_analysis.specs.Selects.{is_empty}
 use Rattle.aqe_analysis.specs.Analysis.{Core, rules, walk, select_over}
 use Rattle.aqe_analysis.specs.Laws.{PlansAreClosed, PlansAreWellFormed}
 use Rattle.aqe_analysis.proofs.Gives.{Gives, gives_upon, gives_weaker}
-use Rattle.aqe_analysis.proofs.Limits.{Laid, Bounded, laid-closed, laid-well_formed}
+use Rattle.aqe_analysis.proofs.Limits.{Laid, laid-closed, laid-well_formed}
 use Rattle.aqe_analysis.proofs.Sources.{FromFits, SourceFits, StepFits, table-fits, query-fits, join_all-fits, from_all-fits}
 use Rattle.aqe_analysis.proofs.Queries.{Done, CoreFits, NextFits, union_rule-laid, paren-laid, query-done, select_over-laid}
 

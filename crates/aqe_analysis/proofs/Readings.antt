@@ -1,21 +1,20 @@
 -- The meaning of an expression reads the columns and the calls of its place alone.
-use Rattle.std.proofs.Common.{◌≡◌, ℕ, zero, suc, ◌+◌, ◌<◌, ◌≤◌, Bool, true, false, cond, ◌&&◌, List, [], ◌∷◌, ◌++◌, map, filter, flat_map, length, Option, Some, None, Ok, Err, option_map, codes, arith, refl}
+use Rattle.std.proofs.Common.{◌≡◌, ℕ, ◌+◌, ◌≤◌, false, cond, ◌&&◌, List, [], ◌∷◌, ◌++◌, map, filter, flat_map, length, Option, Some, None, Ok, Err, option_map, codes, arith, refl}
 use Rattle.std.specs.Prelude.{All}
 use Rattle.std.proofs.lemmas.List.Elements.{All-nil, All-cons, All-head, All-tail, All-append, All-map, All-filter, All-weaker}
 use Rattle.aqe_base.specs.declared.status.AnalysisKind.TheVariants.{NoSuchColumn}
-use Rattle.aqe_values.specs.declared.sql_type.SqlType.{SqlType}
 use Rattle.aqe_expr.specs.declared.expr.BinaryOp.TheVariants as binary
-use Rattle.aqe_expr.specs.declared.expr.Expr.{Expr, Column}
+use Rattle.aqe_expr.specs.declared.expr.Expr.{Column}
 use Rattle.aqe_expr.specs.Columns.{ColumnsBelow}
 use Rattle.aqe_logical.specs.declared.plan.AggFun.{AggFun}
 use Rattle.aqe_logical.specs.declared.plan.AggFun.TheVariants.{Count}
-use Rattle.aqe_analysis.specs.Outcomes.{Check, refused, Outcome, upon, each, if_any, provided, the_only}
+use Rattle.aqe_analysis.specs.Outcomes.{refused, Outcome, upon, each, the_only}
 use Rattle.aqe_analysis.specs.Operations as operation
 use Rattle.aqe_analysis.specs.Operations.{Typed, typed, mismatch}
-use Rattle.aqe_analysis.specs.Readings.{alike, Named, Alias, Call, Place, Reading, bears, is_of, alias_value, column_or_alias, column_named, told, column_of_item, leaf, on_one, on_two, on_three, values, calls_in, on_all, on_one_and_all, calls_if_any, value_if_any, arm_value, case_reading, aggregate_named, takes, same_call, call_of, call_value, aggregate_value, within_call, call_made, the_argument, argument_value, aggregate_reading, counted, function_value, call_reading, readings}
+use Rattle.aqe_analysis.specs.Readings.{alike, Named, Alias, Call, Place, Reading, bears, is_of, column_or_alias, column_named, told, column_of_item, leaf, on_one, on_two, on_three, values, calls_in, on_all, on_one_and_all, calls_if_any, value_if_any, arm_value, case_reading, aggregate_named, takes, same_call, call_of, call_value, aggregate_value, within_call, call_made, the_argument, argument_value, aggregate_reading, counted, function_value, call_reading, readings}
 use Rattle.aqe_trees.specs.declared.expression.OrTree.{OrTree}
 use Rattle.aqe_analysis.specs.Expressions.{read}
-use Rattle.aqe_analysis.proofs.Gives.{Gives, IfAny, gives_upon, gives_all, gives_provided, gives_each, gives_if_any, gives_only}
+use Rattle.aqe_analysis.proofs.Gives.{Gives, IfAny, gives_upon, gives_provided, gives_each, gives_only}
 use Rattle.aqe_analysis.proofs.OperationsBelow as below
 use Rattle.aqe_analysis.proofs.OperationsBelow.{Below, ArmBelow, either_one}
 use Rattle.aqe_analysis.proofs.Below.{below_more}

@@ -1,30 +1,29 @@
 -- The output columns, keys and conditions of a SELECT read what stands below them.
-use Rattle.std.proofs.Common.{◌≡◌, ℕ, zero, suc, ◌+◌, ◌<◌, ◌≤◌, Bool, true, false, not, cond, List, [], ◌∷◌, ◌++◌, map, filter, flat_map, length, Option, Some, None, Ok, Err, option_map, arith, refl, sym, ap, subst, ◌∙◌, length-append}
+use Rattle.std.proofs.Common.{◌≡◌, ℕ, zero, suc, ◌+◌, Bool, true, false, not, List, [], ◌∷◌, ◌++◌, map, filter, flat_map, length, Option, Some, None, Ok, Err, arith, ap, subst}
 use Rattle.std.specs.Prelude.{All}
 use Rattle.std.specs.List.{list_any}
 use Rattle.std.proofs.lemmas.List.{length-map}
 use Rattle.std.proofs.lemmas.List.Elements.{All-nil, All-cons, All-head, All-tail, All-append, All-map, All-filter, All-weaker}
 use Rattle.aqe_values.specs.declared.sql_type.SqlType.TheVariants as sql
-use Rattle.aqe_expr.specs.declared.expr.Expr.{Expr}
 use Rattle.aqe_expr.specs.Columns.{ColumnsBelow}
 use Rattle.aqe_trees.specs.declared.expression.OrTree.{OrTree}
 use Rattle.aqe_trees.specs.declared.query.ItemTree.{ItemTree}
 use Rattle.aqe_trees.specs.declared.query.ItemTree.TheVariants as tree
 use Rattle.aqe_trees.specs.declared.query.SortTree.{SortTree}
-use Rattle.aqe_analysis.specs.Outcomes.{Check, Outcome, upon, each, provided}
+use Rattle.aqe_analysis.specs.Outcomes.{Outcome, upon, each}
 use Rattle.aqe_analysis.specs.Operations.{Typed, typed}
-use Rattle.aqe_analysis.specs.Readings.{Named, Alias, Call, Place, is_of, same_call}
+use Rattle.aqe_analysis.specs.Readings.{Named, Call, Place, is_of, same_call}
 use Rattle.aqe_analysis.specs.Looks.{Alone, a_number, a_column, something}
 use Rattle.aqe_analysis.specs.Expressions.{read, alone_of}
 use Rattle.aqe_analysis.specs.Grouping.{grouped}
 use Rattle.aqe_analysis.specs.Sources.{Item, columns_of, over, condition}
-use Rattle.aqe_analysis.specs.Selects.{Output, output, at, alias_of, with_aliases, all_columns, is_named, columns_of_all, Spread, column, expression, spread_item, spread, spread_value, output_name, column_output, item_outputs, outputs, nth, at_position, group_key, group_keys, without, once, calls_of_item, calls_of_having, calls_of_sorts, calls_of, built_of_groups, built, having_condition}
-use Rattle.aqe_analysis.proofs.Gives.{Gives, IfAny, gives_upon, gives_all, gives_provided, gives_each}
+use Rattle.aqe_analysis.specs.Selects.{Output, output, at, alias_of, with_aliases, all_columns, is_named, columns_of_all, Spread, column, expression, spread_item, spread, spread_value, output_name, column_output, item_outputs, outputs, nth, at_position, group_key, group_keys, without, once, calls_of_item, calls_of_having, calls_of_sorts, calls_of, built, having_condition}
+use Rattle.aqe_analysis.proofs.Gives.{Gives, gives_upon, gives_each}
 use Rattle.aqe_analysis.proofs.OperationsBelow.{Below, either_one}
 use Rattle.aqe_analysis.proofs.Below.{below_more}
 use Rattle.aqe_analysis.proofs.Grouping.{grouped-below}
-use Rattle.aqe_analysis.proofs.Readings.{ColumnFits, AliasFits, CallFits, Fits, Reads, Good, read-fits, flat-all}
-use Rattle.aqe_analysis.proofs.Sources.{Whole, whole-items, over-fits, condition-below}
+use Rattle.aqe_analysis.proofs.Readings.{ColumnFits, AliasFits, CallFits, Fits, read-fits, flat-all}
+use Rattle.aqe_analysis.proofs.Sources.{Whole, whole-items, over-fits}
 
 abbrev pub OutputFits : ℕ → Output → Type 0
 OutputFits n o = Below n o.value

@@ -1,21 +1,19 @@
 -- What FROM gives is laid out right, and its columns are those that it shows.
-use Rattle.std.proofs.Common.{◌≡◌, ℕ, zero, suc, ◌+◌, ◌<◌, ◌≤◌, Bool, true, false, cond, List, [], ◌∷◌, ◌++◌, length, Option, Some, None, Ok, Err, arith, refl, sym, ap, subst, ◌∙◌, length-append}
+use Rattle.std.proofs.Common.{◌≡◌, ℕ, suc, ◌+◌, ◌≤◌, Bool, true, false, cond, List, [], ◌∷◌, ◌++◌, length, Option, Some, None, Ok, Err, arith, refl, sym, ap, subst, ◌∙◌, length-append}
 use Rattle.std.specs.Prelude.{All}
 use Rattle.std.specs.Option.{unwrap_or}
 use Rattle.std.proofs.lemmas.List.Elements.{All-nil, All-cons, All-head, All-tail, All-append}
 use Rattle.aqe_base.specs.declared.join_kind.JoinKind.{JoinKind}
 use Rattle.aqe_base.specs.declared.join_kind.JoinKind.TheVariants.{Cross}
 use Rattle.aqe_values.specs.declared.schema.Field.{Field}
-use Rattle.aqe_values.specs.declared.value.Value.TheVariants as value
-use Rattle.aqe_expr.specs.declared.expr.Expr.{Expr, Literal}
 use Rattle.aqe_expr.specs.Columns.{ColumnsBelow}
-use Rattle.aqe_logical.specs.declared.plan.Logical.{Logical, OneRow, Scan}
+use Rattle.aqe_logical.specs.declared.plan.Logical.{Logical, Scan}
 use Rattle.aqe_logical.specs.Shapes.{filtered, joined}
 use Rattle.aqe_logical.specs.Columns.{schema_of, width, shows_right}
 use Rattle.aqe_trees.specs.declared.expression.OrTree.{OrTree}
 use Rattle.aqe_analysis.specs.Outcomes.{Outcome, upon, provided}
 use Rattle.aqe_analysis.specs.Kinds.{is_truth}
-use Rattle.aqe_analysis.specs.Operations.{Typed, mismatch}
+use Rattle.aqe_analysis.specs.Operations.{mismatch}
 use Rattle.aqe_analysis.specs.Readings.{Named, Place}
 use Rattle.aqe_analysis.specs.Expressions.{read}
 use Rattle.aqe_analysis.specs.Limits.{within_limits}
@@ -23,8 +21,7 @@ use Rattle.aqe_analysis.specs.QueryForms.{Step}
 use Rattle.aqe_analysis.specs.Sources.{Catalog, Item, From, item, from_of, numbered, columns_from, columns_of, over, condition, table_named, scanned, table_source, query_source, join_condition, joined_items, join, join_all, cross_all, from_all, kept}
 use Rattle.aqe_analysis.proofs.Gives.{Gives, gives_upon, gives_provided}
 use Rattle.aqe_analysis.proofs.OperationsBelow.{Below}
-use Rattle.aqe_analysis.proofs.Below.{below_more}
-use Rattle.aqe_analysis.proofs.Readings.{ColumnFits, AliasFits, Fits, Reads, read-fits}
+use Rattle.aqe_analysis.proofs.Readings.{ColumnFits, AliasFits, Fits, read-fits}
 use Rattle.aqe_analysis.proofs.Limits.{Laid, Bounded, within-bounded}
 
 -- how many columns items have

@@ -1,5 +1,5 @@
 -- One step of the walk, as the code takes it.
-use Rattle.std.proofs.Common.{◌≡◌, Bool, true, false, ◌&&◌, Ok, Err, refl, sym, subst}
+use Rattle.std.proofs.Common.{◌≡◌, Bool, true, false, ◌&&◌, Ok, Err, refl}
 use Rattle.aqe_values.specs.declared.sql_type.SqlType.{SqlType}
 use Rattle.aqe_expr.specs.declared.expr.UnaryOp.{UnaryOp}
 use Rattle.aqe_expr.specs.declared.expr.BinaryOp.{BinaryOp}
@@ -9,7 +9,7 @@ use Rattle.aqe_expr.specs.Shapes.{unary_of, binary_of}
 use Rattle.aqe_expr.proofs.Shapes.{is_unary, is_binary}
 use Rattle.aqe_analysis.specs.declared.fault.AnalysisFault.{AnalysisFault}
 use Rattle.aqe_analysis.specs.declared.fault.AnalysisFault.TheVariants as fault
-use Rattle.aqe_analysis.specs.Outcomes.{Check, Outcome, upon, provided}
+use Rattle.aqe_analysis.specs.Outcomes.{Check, Outcome, provided}
 use Rattle.aqe_analysis.specs.Operations.{Typed, typed, cast_to, is_operation}
 use Rattle.aqe_expr.specs.declared.expr.UnaryOp.TheVariants as op
 use Rattle.aqe_values.specs.declared.sql_type.SqlType.TheVariants as sql

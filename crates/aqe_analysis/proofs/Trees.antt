@@ -1,23 +1,23 @@
 -- What each rule keeps, each expression has.
-use Rattle.std.proofs.Common.{◌≡◌, ℕ, zero, suc, List, [], ◌∷◌, map, Bool, true, false, Option, Some, None, option_map, sym, subst, ap, ◌∙◌}
+use Rattle.std.proofs.Common.{ℕ, zero, suc, List, [], ◌∷◌, map, Bool, true, false, Option, Some, None, sym}
 use Rattle.std.specs.Prelude.{All}
 use Rattle.std.proofs.lemmas.List.Elements.{All-nil, All-cons, All-head, All-tail}
 use Rattle.aqe_values.specs.declared.sql_type.SqlType.{SqlType}
-use Rattle.aqe_trees.specs.declared.expression.OrTree.{OrTree, OrTree-F, fold-OrTree, ind-OrTree, fold-roll-OrTree}
-use Rattle.aqe_trees.specs.declared.expression.AndTree.{AndTree, AndTree-F, fold-AndTree, fold-roll-AndTree}
-use Rattle.aqe_trees.specs.declared.expression.NotTree.{NotTree, NotTree-F, fold-NotTree, fold-roll-NotTree}
-use Rattle.aqe_trees.specs.declared.expression.PredicateTree.{PredicateTree, PredicateTree-F, fold-PredicateTree, fold-roll-PredicateTree}
+use Rattle.aqe_trees.specs.declared.expression.OrTree.{OrTree, ind-OrTree, fold-roll-OrTree}
+use Rattle.aqe_trees.specs.declared.expression.AndTree.{AndTree, fold-AndTree, fold-roll-AndTree}
+use Rattle.aqe_trees.specs.declared.expression.NotTree.{NotTree, fold-NotTree, fold-roll-NotTree}
+use Rattle.aqe_trees.specs.declared.expression.PredicateTree.{PredicateTree, fold-PredicateTree, fold-roll-PredicateTree}
 use Rattle.aqe_trees.specs.declared.expression.Test.{Test, Test-F, fold-Test, fold-roll-Test}
-use Rattle.aqe_trees.specs.declared.expression.ComparisonTree.{ComparisonTree, ComparisonTree-F, fold-ComparisonTree, fold-roll-ComparisonTree}
+use Rattle.aqe_trees.specs.declared.expression.ComparisonTree.{ComparisonTree, fold-ComparisonTree, fold-roll-ComparisonTree}
 use Rattle.aqe_trees.specs.declared.expression.CompareOp.{CompareOp}
-use Rattle.aqe_trees.specs.declared.expression.SumTree.{SumTree, SumTree-F, fold-SumTree, fold-roll-SumTree}
+use Rattle.aqe_trees.specs.declared.expression.SumTree.{SumTree, fold-SumTree, fold-roll-SumTree}
 use Rattle.aqe_trees.specs.declared.expression.Sign.{Sign}
-use Rattle.aqe_trees.specs.declared.expression.ProductTree.{ProductTree, ProductTree-F, fold-ProductTree, fold-roll-ProductTree}
+use Rattle.aqe_trees.specs.declared.expression.ProductTree.{ProductTree, fold-ProductTree, fold-roll-ProductTree}
 use Rattle.aqe_trees.specs.declared.expression.ProductOp.{ProductOp}
 use Rattle.aqe_trees.specs.declared.expression.Truth.{Truth}
-use Rattle.aqe_trees.specs.declared.expression.SignTree.{SignTree, SignTree-F, fold-SignTree, fold-roll-SignTree}
+use Rattle.aqe_trees.specs.declared.expression.SignTree.{SignTree, fold-SignTree, fold-roll-SignTree}
 use Rattle.aqe_trees.specs.declared.expression.PrimaryTree.{PrimaryTree, PrimaryTree-F, fold-PrimaryTree, fold-roll-PrimaryTree}
-use Rattle.aqe_trees.specs.declared.expression.Arm.{Arm, Arm-F, fold-Arm, fold-roll-Arm}
+use Rattle.aqe_trees.specs.declared.expression.Arm.{Arm, fold-Arm, fold-roll-Arm}
 use Rattle.aqe_analysis.specs.Forms.{Forms}
 use Rattle.aqe_analysis.specs.Trees.{times, under_signs, negated_if, chain, chain_of_one, primary_level, test_level, and_level, arm_level, comparison_level, not_level, or_level, predicate_level, product_level, sign_level, sum_level, made_of}
 use Rattle.aqe_analysis.proofs.Gives.{IfAny}

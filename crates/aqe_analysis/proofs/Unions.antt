@@ -1,21 +1,19 @@
 -- The plan of a UNION is laid out right.
-use Rattle.std.proofs.Common.{◌≡◌, ℕ, zero, suc, ◌+◌, ◌≤◌, ◌==◌, Bool, true, false, cond, ◌&&◌, List, [], ◌∷◌, length, Ok, Err, arith, refl, sym, ap, subst, ◌∙◌, eqb-true}
-use Rattle.std.specs.Prelude.{All, nat_eq}
+use Rattle.std.proofs.Common.{◌≡◌, ℕ, suc, ◌+◌, ◌≤◌, ◌==◌, Bool, true, false, List, [], ◌∷◌, length, Ok, arith, refl, sym, ap, ◌∙◌, eqb-true}
 use Rattle.std.proofs.lemmas.List.Elements.{All-nil, All-cons}
 use Rattle.aqe_base.specs.declared.status.AnalysisKind.TheVariants.{UnionWidth}
 use Rattle.aqe_values.specs.declared.schema.Field.{Field}
 use Rattle.aqe_values.specs.declared.sql_type.SqlType.{SqlType}
-use Rattle.aqe_expr.specs.declared.expr.Expr.{Expr, Column}
+use Rattle.aqe_expr.specs.declared.expr.Expr.{Column}
 use Rattle.aqe_expr.specs.Columns.{ColumnsBelow}
 use Rattle.aqe_logical.specs.declared.plan.Logical.{Logical}
 use Rattle.aqe_logical.specs.Shapes.{projected, united}
 use Rattle.aqe_logical.specs.Columns.{schema_of, width}
 use Rattle.aqe_logical.specs.WellFormed.{ItemsBelow}
-use Rattle.aqe_analysis.specs.Outcomes.{Outcome, refused, upon, provided, present}
+use Rattle.aqe_analysis.specs.Outcomes.{refused, upon, provided, present}
 use Rattle.aqe_analysis.specs.Kinds.{common}
 use Rattle.aqe_analysis.specs.Operations.{typed, mismatch, converted}
 use Rattle.aqe_analysis.specs.Limits.{within_limits}
-use Rattle.aqe_analysis.specs.Selects.{field}
 use Rattle.aqe_analysis.specs.Plans.{distinct_if}
 use Rattle.aqe_analysis.specs.Unions.{common_kinds, has_kinds, cast_columns, cast_fields, cast_side, union_of}
 use Rattle.aqe_analysis.proofs.Gives.{Gives, gives_upon, gives_all}

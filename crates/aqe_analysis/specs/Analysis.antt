@@ -1,8 +1,7 @@
 -- The analysis of a query: its one plan, or the first check that fails.
-use Rattle.std.specs.Prelude.{◌≡◌, ℕ, ◌-◌, ◌^◌, min, Bool, true, false, not, cond, List, [], ◌∷◌, ◌++◌, map, length, Option, Some, None, option_map, Ok, Err}
+use Rattle.std.specs.Prelude.{◌≡◌, ℕ, ◌-◌, ◌^◌, min, Bool, true, false, not, cond, List, [], ◌∷◌, ◌++◌, map, length, Option, None, option_map, Ok}
 use Rattle.std.specs.Option.{unwrap_or}
 use Rattle.std.specs.Result.{result_err}
-use Rattle.aqe_values.specs.declared.schema.Field.{Field}
 use Rattle.aqe_logical.specs.declared.plan.Logical.{Logical}
 use Rattle.aqe_logical.specs.Shapes.{limited}
 use Rattle.aqe_trees.specs.declared.expression.OrTree.{OrTree}
@@ -11,14 +10,14 @@ use Rattle.aqe_trees.specs.declared.query.ItemTree.{ItemTree}
 use Rattle.aqe_trees.specs.declared.query.SortTree.{SortTree}
 use Rattle.aqe_analysis.specs.Outcomes.{Check, Outcome, upon, if_any}
 use Rattle.aqe_analysis.specs.Operations.{Typed}
-use Rattle.aqe_analysis.specs.Readings.{Named, Call, Place}
+use Rattle.aqe_analysis.specs.Readings.{Named, Call}
 use Rattle.aqe_analysis.specs.Expressions.{read}
 use Rattle.aqe_analysis.specs.Limits.{within_limits}
 use Rattle.aqe_analysis.specs.Sources.{Catalog, Item, From, columns_of, over, kept, table_source, query_source, join_all, from_all}
 use Rattle.aqe_analysis.specs.Selects.{Output, at, with_aliases, outputs, group_keys, is_grouped, is_empty, calls_of, built, having_condition}
 use Rattle.aqe_analysis.specs.Plans.{groups_of, filtered_by, fields_of, projected_to, distinct_if, sortings, hidden_columns, keys_of, sorted_by, without_hidden, hidden_output, shown_columns, no_hidden, ordered}
 use Rattle.aqe_analysis.specs.Unions.{union_of}
-use Rattle.aqe_analysis.specs.QueryForms.{QueryForms, Step}
+use Rattle.aqe_analysis.specs.QueryForms.{QueryForms}
 use Rattle.aqe_analysis.specs.QueryTrees.{made_of_query}
 
 -- What is known of a SELECT once its list and HAVING are read: the plan of FROM and WHERE, the columns of FROM, whether it

@@ -1,10 +1,7 @@
 -- Equal expressions: the same operations on the same columns and literals.
-use Rattle.std.specs.Prelude.{ℕ, ◌==◌, Bool, true, false, ◌&&◌, nat_eq}
-use Rattle.aqe_values.specs.declared.value.Value.{Value}
+use Rattle.std.specs.Prelude.{◌==◌, Bool, true, false, ◌&&◌}
 use Rattle.aqe_values.specs.Equality.{value_eq}
-use Rattle.aqe_expr.specs.declared.expr.UnaryOp.{UnaryOp}
 use Rattle.aqe_expr.specs.contracts.expr.UnaryOpPartialEq.TheImpl as unary_eq
-use Rattle.aqe_expr.specs.declared.expr.BinaryOp.{BinaryOp}
 use Rattle.aqe_expr.specs.contracts.expr.BinaryOpPartialEq.TheImpl as binary_eq
 use Rattle.aqe_expr.specs.declared.expr.Expr.{Expr, Column, Literal, Coalesce}
 use Rattle.aqe_expr.specs.declared.expr.Operands as list

@@ -1,5 +1,5 @@
 -- What is made of an expression's tree, from what is made of its operands. Operators of one level stand from left to right.
-use Rattle.std.specs.Prelude.{ℕ, zero, suc, List, [], ◌∷◌, Bool, true, false, Option, Some, None}
+use Rattle.std.specs.Prelude.{ℕ, List, Bool, Option}
 use Rattle.aqe_values.specs.declared.sql_type.SqlType.{SqlType}
 use Rattle.aqe_trees.specs.declared.expression.CompareOp.{CompareOp}
 use Rattle.aqe_trees.specs.declared.expression.Sign.{Sign}

@@ -1,13 +1,11 @@
 -- Expressions of a grouped query, over the rows of its Aggregate: the keys, and then the calls.
-use Rattle.std.specs.Prelude.{ℕ, zero, suc, ◌+◌, Bool, cond, List, [], ◌∷◌, length, Option, Some, None, Ok, Err}
-use Rattle.std.specs.Option.{option_map_or}
+use Rattle.std.specs.Prelude.{ℕ, zero, suc, ◌+◌, cond, List, [], ◌∷◌, length, Ok, Err}
 use Rattle.aqe_base.specs.declared.status.AnalysisKind.TheVariants.{NotGrouped}
-use Rattle.aqe_values.specs.declared.value.Value.{Value}
 use Rattle.aqe_expr.specs.declared.expr.Expr.{Expr, Column, Literal, Coalesce}
 use Rattle.aqe_expr.specs.declared.expr.Operands as list
 use Rattle.aqe_expr.specs.declared.expr.CasePairs as pairs
 use Rattle.aqe_expr.specs.Shapes.{unary_of, binary_of, between_of, one_of, case_of, switch_of, operand, pair}
-use Rattle.aqe_analysis.specs.Outcomes.{Check, refused, Outcome, upon}
+use Rattle.aqe_analysis.specs.Outcomes.{refused, Outcome, upon}
 use Rattle.aqe_analysis.specs.Equality.{same_expr}
 
 -- an expression that equals a key is the first such key, whatever it is made of

@@ -1,5 +1,5 @@
 -- Types of expressions.
-use Rattle.std.specs.Prelude.{List, [], ◌∷◌, Bool, true, false, Option, Some, None, option_and_then}
+use Rattle.std.specs.Prelude.{Bool, true, false, Option, Some, None, option_and_then}
 use Rattle.aqe_values.specs.declared.sql_type.SqlType.{SqlType}
 use Rattle.aqe_values.specs.declared.sql_type.SqlType.TheVariants as sql
 

@@ -1,5 +1,5 @@
 -- The laws of the analysis.
-use Rattle.std.specs.Prelude.{◌≡◌, ◌↔◌, Option, None}
+use Rattle.std.specs.Prelude.{◌≡◌, ◌↔◌, None}
 use Rattle.aqe_logical.specs.declared.plan.Logical.{Logical}
 use Rattle.aqe_logical.specs.WellFormed.{Closed, WellFormed}
 use Rattle.aqe_trees.specs.declared.query.QueryTree.{QueryTree}

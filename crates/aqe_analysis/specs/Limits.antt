@@ -1,10 +1,10 @@
 -- The two limits of a plan: how many operators it has, and how many columns a node has.
-use Rattle.std.specs.Prelude.{ℕ, ◌+◌, max, nat_le, List, length, Option, Some, None, Bool, Ok}
+use Rattle.std.specs.Prelude.{ℕ, ◌+◌, max, nat_le, length, Ok}
 use Rattle.aqe_logical.specs.declared.plan.Logical.{Logical, OneRow, Scan, Empty, Held, HeldPartial}
 use Rattle.aqe_logical.specs.Shapes.{filtered, projected, joined, aggregated, united, sorted, limited, sampled}
 use Rattle.aqe_logical.specs.Columns.{width}
 use Rattle.aqe_logical.specs.WellFormed.{column_limit}
-use Rattle.aqe_analysis.specs.Outcomes.{Check, too_many_operators, too_many_columns, Outcome, provided}
+use Rattle.aqe_analysis.specs.Outcomes.{too_many_operators, too_many_columns, Outcome, provided}
 
 abbrev pub operator_limit : ℕ
 operator_limit = 256

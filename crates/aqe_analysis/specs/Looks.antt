@@ -1,7 +1,6 @@
 -- What can be seen of an expression before its names are known.
-use Rattle.std.specs.Prelude.{ℕ, List, [], ◌∷◌, ◌++◌, flat_map, Bool, true, false, Option, Some, None, codes}
-use Rattle.std.specs.Option.{option_map_or, is_some}
-use Rattle.std.specs.List.{list_any}
+use Rattle.std.specs.Prelude.{ℕ, List, [], ◌∷◌, ◌++◌, flat_map, Bool, true, false, Option, codes}
+use Rattle.std.specs.Option.{option_map_or}
 use Rattle.aqe_analysis.specs.Forms.{Forms}
 use Rattle.aqe_analysis.specs.Readings.{aggregate_named}
 

@@ -1,10 +1,9 @@
 -- Expressions with their types, and the operations on them: what each asks of the types of its operands, and what it gives.
-use Rattle.std.specs.Prelude.{ℕ, zero, ℤ, pos, ◌^◌, ◌-◌, min, max, Bool, true, false, not, cond, ◌&&◌, ◌||◌, List, [], ◌∷◌, ◌++◌, map, Option, Some, None, fold, Ok, Err}
+use Rattle.std.specs.Prelude.{ℕ, ℤ, ◌^◌, ◌-◌, min, Bool, true, false, not, cond, ◌&&◌, List, [], ◌∷◌, ◌++◌, map, Option, Some, None, fold, Ok}
 use Rattle.std.specs.List.{list_all}
 use Rattle.aqe_base.specs.declared.status.AnalysisKind.TheVariants.{TypeMismatch}
 use Rattle.aqe_values.specs.declared.sql_type.SqlType.{SqlType}
 use Rattle.aqe_values.specs.declared.sql_type.SqlType.TheVariants as sql
-use Rattle.aqe_values.specs.declared.value.Value.{Value}
 use Rattle.aqe_values.specs.declared.value.Value.TheVariants as value
 use Rattle.aqe_expr.specs.declared.expr.UnaryOp.{UnaryOp}
 use Rattle.aqe_expr.specs.declared.expr.UnaryOp.TheVariants as unary
@@ -25,7 +24,7 @@ use Rattle.aqe_trees.specs.declared.expression.Truth.{Truth}
 use Rattle.aqe_trees.specs.declared.expression.Truth.TheVariants as truth
 pub use Rattle.aqe_analysis.specs.declared.typed.Typed.{Typed}
 use Rattle.aqe_analysis.specs.Outcomes.{Check, refused, Outcome, upon, provided, present}
-use Rattle.aqe_analysis.specs.Kinds.{common, common_with, is_same_kind, is_number, is_truth, is_text, wider}
+use Rattle.aqe_analysis.specs.Kinds.{common_with, is_same_kind, is_number, is_truth, is_text, wider}
 
 -- an expression over the columns of a row, with the type of its values
 abbrev pub typed : Expr → SqlType → Typed

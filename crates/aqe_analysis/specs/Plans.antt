@@ -1,5 +1,5 @@
 -- The plan of one SELECT with the ORDER BY above it.
-use Rattle.std.specs.Prelude.{ℕ, zero, suc, ◌+◌, Bool, true, false, not, cond, ◌&&◌, List, [], ◌∷◌, ◌++◌, map, flat_map, length, Option, Some, None, Ok, Err}
+use Rattle.std.specs.Prelude.{ℕ, ◌+◌, Bool, true, false, cond, List, [], ◌∷◌, ◌++◌, map, Option, Some, None, Ok, Err}
 use Rattle.std.specs.List.{list_any, list_all}
 use Rattle.aqe_base.specs.declared.status.AnalysisKind.TheVariants.{NoSuchColumn}
 use Rattle.aqe_values.specs.declared.schema.Field.{Field}
@@ -11,10 +11,10 @@ use Rattle.aqe_logical.specs.Shapes.{filtered, projected, aggregated, sorted}
 use Rattle.aqe_logical.specs.Columns.{schema_of}
 use Rattle.aqe_trees.specs.declared.expression.OrTree.{OrTree}
 use Rattle.aqe_trees.specs.declared.query.SortTree.{SortTree}
-use Rattle.aqe_analysis.specs.Outcomes.{Check, refused, Outcome, upon, each, provided}
-use Rattle.aqe_analysis.specs.Operations.{Typed, typed}
-use Rattle.aqe_analysis.specs.Readings.{Named, Call, Place, told, bears}
-use Rattle.aqe_analysis.specs.Looks.{Mention, plain, of_item, aggregate, Alone, a_number, a_column, something}
+use Rattle.aqe_analysis.specs.Outcomes.{refused, Outcome, upon, each}
+use Rattle.aqe_analysis.specs.Operations.{Typed}
+use Rattle.aqe_analysis.specs.Readings.{Named, Call, told, bears}
+use Rattle.aqe_analysis.specs.Looks.{Mention, plain, of_item, aggregate, Alone, a_number}
 use Rattle.aqe_analysis.specs.Expressions.{read, mentions_of, alone_of}
 use Rattle.aqe_analysis.specs.Sources.{numbered, over}
 use Rattle.aqe_analysis.specs.Selects.{Output, output, field, at_position}

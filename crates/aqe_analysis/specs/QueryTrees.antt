@@ -1,5 +1,4 @@
 -- The forms of a query, read off its tree.
-use Rattle.std.specs.Prelude.{ℕ, List, [], ◌∷◌, map, Bool, Option}
 use Rattle.aqe_trees.specs.declared.query.QueryTree.{QueryTree, QueryTree-F, fold-QueryTree}
 use Rattle.aqe_trees.specs.declared.query.UnionTree.{UnionTree-F}
 use Rattle.aqe_trees.specs.declared.query.CoreTree.{CoreTree-F}

@@ -1,19 +1,17 @@
 -- What an expression means at its place: the rules of names, types and aggregate calls.
-use Rattle.std.specs.Prelude.{ℕ, ◌+◌, ◌==◌, ◌≤◌, nat_le, pos, Bool, true, false, not, cond, ◌&&◌, ◌||◌, List, [], ◌∷◌, ◌++◌, map, flat_map, filter, length, Option, Some, None, option_map, codes, Ok, Err}
+use Rattle.std.specs.Prelude.{ℕ, ◌+◌, nat_le, Bool, true, false, cond, ◌&&◌, List, [], ◌∷◌, ◌++◌, map, flat_map, filter, length, Option, Some, None, option_map, codes, Ok, Err}
 use Rattle.std.specs.Option.{option_map_or}
 use Rattle.std.specs.Str.{str_eq_ignore_ascii_case}
 use Rattle.aqe_base.specs.declared.status.AnalysisKind.TheVariants.{NoSuchColumn, NestedAggregate}
 use Rattle.aqe_values.specs.Bounds.{text_limit}
 use Rattle.aqe_values.specs.declared.sql_type.SqlType.{SqlType}
 use Rattle.aqe_values.specs.declared.sql_type.SqlType.TheVariants as sql
-use Rattle.aqe_values.specs.declared.value.Value.TheVariants as value
 use Rattle.aqe_expr.specs.declared.expr.BinaryOp.TheVariants as binary
-use Rattle.aqe_expr.specs.declared.expr.Expr.{Expr, Column, Literal}
+use Rattle.aqe_expr.specs.declared.expr.Expr.{Column}
 use Rattle.aqe_logical.specs.declared.plan.AggCall.{AggCall}
 use Rattle.aqe_logical.specs.declared.plan.AggFun.{AggFun}
 use Rattle.aqe_logical.specs.declared.plan.AggFun.TheVariants.{Count, Sum, Min, Max}
-use Rattle.aqe_trees.specs.declared.expression.Sign.{Sign}
-use Rattle.aqe_analysis.specs.Outcomes.{Check, refused, Outcome, upon, each, if_any, provided, the_only}
+use Rattle.aqe_analysis.specs.Outcomes.{refused, Outcome, upon, each, if_any, provided, the_only}
 use Rattle.aqe_analysis.specs.Kinds.{is_number}
 use Rattle.aqe_analysis.specs.Operations as operation
 use Rattle.aqe_analysis.specs.Operations.{Typed, typed, mismatch}

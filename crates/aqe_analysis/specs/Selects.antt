@@ -1,5 +1,5 @@
 -- One SELECT: its output columns, its groups, and its plan.
-use Rattle.std.specs.Prelude.{ℕ, zero, suc, ◌+◌, ◌==◌, Bool, true, false, not, cond, ◌&&◌, ◌||◌, List, [], ◌∷◌, ◌++◌, map, flat_map, filter, length, Option, Some, None, option_map, codes, Ok, Err}
+use Rattle.std.specs.Prelude.{ℕ, zero, suc, ◌+◌, Bool, true, false, not, cond, ◌||◌, List, [], ◌∷◌, ◌++◌, map, flat_map, filter, length, Option, Some, None, codes, Ok, Err}
 use Rattle.std.specs.Option.{option_map_or, is_some}
 use Rattle.std.specs.List.{list_any}
 use Rattle.std.specs.Fmt.{decimal}
@@ -7,24 +7,18 @@ use Rattle.aqe_base.specs.declared.status.AnalysisKind.TheVariants.{NoSuchTable,
 use Rattle.aqe_values.specs.declared.schema.Field.{Field}
 use Rattle.aqe_values.specs.declared.sql_type.SqlType.{SqlType}
 use Rattle.aqe_values.specs.declared.sql_type.SqlType.TheVariants as sql
-use Rattle.aqe_values.specs.declared.sort_way.SortWay.{SortWay}
 use Rattle.aqe_expr.specs.declared.expr.Expr.{Expr, Column}
-use Rattle.aqe_logical.specs.declared.plan.AggCall.{AggCall}
-use Rattle.aqe_logical.specs.declared.plan.SortKey.{SortKey}
-use Rattle.aqe_logical.specs.declared.plan.Logical.{Logical}
-use Rattle.aqe_logical.specs.Shapes.{filtered, projected, aggregated, sorted}
 use Rattle.aqe_trees.specs.declared.expression.OrTree.{OrTree}
 use Rattle.aqe_trees.specs.declared.query.ItemTree.{ItemTree}
 use Rattle.aqe_trees.specs.declared.query.ItemTree.TheVariants as tree
 use Rattle.aqe_trees.specs.declared.query.SortTree.{SortTree}
-use Rattle.aqe_analysis.specs.Outcomes.{Check, refused, Outcome, upon, each, provided}
+use Rattle.aqe_analysis.specs.Outcomes.{refused, Outcome, upon, each}
 use Rattle.aqe_analysis.specs.Operations.{Typed, typed}
-use Rattle.aqe_analysis.specs.Readings.{Named, Alias, Call, Place, alike, is_of, same_call, told, bears}
-use Rattle.aqe_analysis.specs.Looks.{Mention, plain, of_item, aggregate, is_aggregate, Alone, a_number, a_column, something}
+use Rattle.aqe_analysis.specs.Readings.{Named, Alias, Call, Place, alike, is_of, same_call, told}
+use Rattle.aqe_analysis.specs.Looks.{is_aggregate, Alone, a_number, a_column}
 use Rattle.aqe_analysis.specs.Expressions.{read, mentions_of, alone_of}
-use Rattle.aqe_analysis.specs.Limits.{within_limits}
 use Rattle.aqe_analysis.specs.Grouping.{grouped}
-use Rattle.aqe_analysis.specs.Sources.{Item, From, columns_of, over, condition, kept}
+use Rattle.aqe_analysis.specs.Sources.{Item, columns_of, over, condition}
 
 -- an output column
 pub record Output : Type 0 where

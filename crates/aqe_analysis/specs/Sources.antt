@@ -1,6 +1,6 @@
 -- FROM: the plan of what it reads, and the columns that it shows.
-use Rattle.std.specs.Prelude.{ℕ, ◌+◌, Bool, true, false, not, cond, List, [], ◌∷◌, ◌++◌, map, flat_map, filter, length, Option, Some, None, option_map, Ok, Err}
-use Rattle.std.specs.Option.{unwrap_or, option_map_or}
+use Rattle.std.specs.Prelude.{ℕ, ◌+◌, true, cond, List, [], ◌∷◌, ◌++◌, length, Option, Some, None, Ok, Err}
+use Rattle.std.specs.Option.{unwrap_or}
 use Rattle.aqe_base.specs.declared.join_kind.JoinKind.{JoinKind}
 use Rattle.aqe_base.specs.declared.join_kind.JoinKind.TheVariants.{Cross}
 use Rattle.aqe_base.specs.declared.status.AnalysisKind.TheVariants.{NoSuchTable}
@@ -11,10 +11,10 @@ use Rattle.aqe_logical.specs.declared.plan.Logical.{Logical, OneRow, Scan}
 use Rattle.aqe_logical.specs.Shapes.{filtered, joined}
 use Rattle.aqe_logical.specs.Columns.{schema_of, shows_right}
 use Rattle.aqe_trees.specs.declared.expression.OrTree.{OrTree}
-use Rattle.aqe_analysis.specs.Outcomes.{Check, refused, Outcome, upon, provided}
+use Rattle.aqe_analysis.specs.Outcomes.{refused, Outcome, upon, provided}
 use Rattle.aqe_analysis.specs.Kinds.{is_truth}
-use Rattle.aqe_analysis.specs.Operations.{Typed, typed, mismatch}
-use Rattle.aqe_analysis.specs.Readings.{Named, Alias, Call, Place, alike}
+use Rattle.aqe_analysis.specs.Operations.{typed, mismatch}
+use Rattle.aqe_analysis.specs.Readings.{Named, Place, alike}
 use Rattle.aqe_analysis.specs.Expressions.{read}
 use Rattle.aqe_analysis.specs.Limits.{within_limits}
 use Rattle.aqe_analysis.specs.QueryForms.{Step}

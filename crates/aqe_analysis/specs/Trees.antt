@@ -1,19 +1,17 @@
 -- The forms of an expression, read off its tree.
-use Rattle.std.specs.Prelude.{ℕ, zero, suc, List, [], ◌∷◌, Bool, true, false, Option, Some, None, fold}
+use Rattle.std.specs.Prelude.{ℕ, zero, suc, List, [], ◌∷◌, Bool, true, false}
 use Rattle.aqe_trees.specs.declared.expression.OrTree.{OrTree, OrTree-F, fold-OrTree}
-use Rattle.aqe_trees.specs.declared.expression.AndTree.{AndTree, AndTree-F, fold-AndTree}
-use Rattle.aqe_trees.specs.declared.expression.NotTree.{NotTree, NotTree-F, fold-NotTree}
-use Rattle.aqe_trees.specs.declared.expression.PredicateTree.{PredicateTree, PredicateTree-F, fold-PredicateTree}
-use Rattle.aqe_trees.specs.declared.expression.Test.{Test, Test-F, fold-Test}
-use Rattle.aqe_trees.specs.declared.expression.ComparisonTree.{ComparisonTree, ComparisonTree-F, fold-ComparisonTree}
-use Rattle.aqe_trees.specs.declared.expression.CompareOp.{CompareOp}
-use Rattle.aqe_trees.specs.declared.expression.SumTree.{SumTree, SumTree-F, fold-SumTree}
+use Rattle.aqe_trees.specs.declared.expression.AndTree.{AndTree-F}
+use Rattle.aqe_trees.specs.declared.expression.NotTree.{NotTree-F}
+use Rattle.aqe_trees.specs.declared.expression.PredicateTree.{PredicateTree-F}
+use Rattle.aqe_trees.specs.declared.expression.Test.{Test-F}
+use Rattle.aqe_trees.specs.declared.expression.ComparisonTree.{ComparisonTree-F}
+use Rattle.aqe_trees.specs.declared.expression.SumTree.{SumTree-F}
 use Rattle.aqe_trees.specs.declared.expression.Sign.{Sign}
-use Rattle.aqe_trees.specs.declared.expression.ProductTree.{ProductTree, ProductTree-F, fold-ProductTree}
-use Rattle.aqe_trees.specs.declared.expression.ProductOp.{ProductOp}
-use Rattle.aqe_trees.specs.declared.expression.SignTree.{SignTree, SignTree-F, fold-SignTree}
-use Rattle.aqe_trees.specs.declared.expression.PrimaryTree.{PrimaryTree, PrimaryTree-F, fold-PrimaryTree}
-use Rattle.aqe_trees.specs.declared.expression.Arm.{Arm, Arm-F, fold-Arm}
+use Rattle.aqe_trees.specs.declared.expression.ProductTree.{ProductTree-F}
+use Rattle.aqe_trees.specs.declared.expression.SignTree.{SignTree-F}
+use Rattle.aqe_trees.specs.declared.expression.PrimaryTree.{PrimaryTree-F}
+use Rattle.aqe_trees.specs.declared.expression.Arm.{Arm-F}
 use Rattle.aqe_analysis.specs.Forms.{Forms}
 
 -- NOT, so many times; signs, the outermost first; and NOT where a test is negated

@@ -1,5 +1,5 @@
 -- UNION: both sides get common types.
-use Rattle.std.specs.Prelude.{ℕ, ◌+◌, ◌==◌, Bool, true, false, cond, ◌&&◌, List, [], ◌∷◌, length, Ok, Err}
+use Rattle.std.specs.Prelude.{ℕ, ◌+◌, ◌==◌, Bool, true, cond, ◌&&◌, List, [], ◌∷◌, length, Ok}
 use Rattle.aqe_base.specs.declared.status.AnalysisKind.TheVariants.{UnionWidth}
 use Rattle.aqe_values.specs.declared.schema.Field.{Field}
 use Rattle.aqe_values.specs.declared.sql_type.SqlType.{SqlType}
@@ -7,9 +7,9 @@ use Rattle.aqe_expr.specs.declared.expr.Expr.{Expr, Column}
 use Rattle.aqe_logical.specs.declared.plan.Logical.{Logical}
 use Rattle.aqe_logical.specs.Shapes.{projected, united}
 use Rattle.aqe_logical.specs.Columns.{schema_of}
-use Rattle.aqe_analysis.specs.Outcomes.{Check, refused, Outcome, upon, provided, present}
+use Rattle.aqe_analysis.specs.Outcomes.{refused, Outcome, upon, provided, present}
 use Rattle.aqe_analysis.specs.Kinds.{common, is_same_kind}
-use Rattle.aqe_analysis.specs.Operations.{Typed, typed, mismatch, converted}
+use Rattle.aqe_analysis.specs.Operations.{typed, mismatch, converted}
 use Rattle.aqe_analysis.specs.Selects.{field}
 use Rattle.aqe_analysis.specs.Limits.{within_limits}
 use Rattle.aqe_analysis.specs.Plans.{distinct_if}

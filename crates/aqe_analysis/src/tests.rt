@@ -7,6 +7,7 @@ use aqe_base::AnalysisKind;
 use aqe_expr::{BinaryOp, Expr, UnaryOp};
 use aqe_trees::{CompareOp, Sign};
 use aqe_values::SqlType;
+use std::alloc::Global;
 
 fn column(number: u32, kind: SqlType) -> Typed {
     Typed {
@@ -67,7 +68,7 @@ fn texts_do_not_add(rt: HostRuntime) -> Result<(), AnalysisFault> {
 }
 
 #[test]
-fn other_operations_succeed(rt: HostRuntime) -> Result<(), AnalysisFault> {
+fn between_and_like_succeed(rt: HostRuntime) -> Result<(), AnalysisFault> {
     let alloc = rt.alloc();
     let found = between(
         alloc,
@@ -79,14 +80,23 @@ fn other_operations_succeed(rt: HostRuntime) -> Result<(), AnalysisFault> {
     let text = cast(alloc, SqlType::Text, column(0, SqlType::Int))?;
     let alike = like(alloc, text, column(1, SqlType::Text))?;
     assert!(rt; matches!(alike.kind, SqlType::Boolean));
-    let mut list = Vec::new(alloc);
-    list.push(column(1, SqlType::Int))?;
-    list.push(column(2, SqlType::BigInt))?;
+    Ok(())
+}
+
+fn two(alloc: Global, a: SqlType, b: SqlType) -> Result<Vec<Typed>, AnalysisFault> {
+    let mut all = Vec::new(alloc);
+    all.push(column(1, a))?;
+    all.push(column(2, b))?;
+    Ok(all)
+}
+
+#[test]
+fn lists_succeed(rt: HostRuntime) -> Result<(), AnalysisFault> {
+    let alloc = rt.alloc();
+    let list = two(alloc, SqlType::Int, SqlType::BigInt)?;
     let one = in_list(alloc, column(0, SqlType::Int), list)?;
     assert!(rt; matches!(one.expr, Expr::OneOf { .. }));
-    let mut all = Vec::new(alloc);
-    all.push(column(0, SqlType::NullType))?;
-    all.push(column(1, SqlType::Int))?;
+    let all = two(alloc, SqlType::NullType, SqlType::Int)?;
     let first = coalesce(alloc, all)?;
     assert!(rt; matches!(first.kind, SqlType::Int));
     Ok(())
