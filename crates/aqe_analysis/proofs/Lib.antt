@@ -2,7 +2,7 @@ pub mod Outcomes
 pub mod Gives
 pub mod OperationsBelow
 pub mod Grouping
-pub mod Limits
+pub mod Bounds
 pub mod Trees
 pub mod Below
 pub mod Readings
@@ -15,3 +15,7 @@ pub mod QueryTrees
 pub mod Steps
 pub mod Comparing
 pub mod KnownAnswers
+pub mod OperatorSteps
+pub mod Levels
+pub mod CaseSteps
+pub mod FoundSteps

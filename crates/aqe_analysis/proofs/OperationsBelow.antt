@@ -19,9 +19,9 @@ use Rattle.aqe_trees.specs.declared.expression.ProductOp.{ProductOp}
 use Rattle.aqe_trees.specs.declared.expression.ProductOp.TheVariants as product
 use Rattle.aqe_trees.specs.declared.expression.Truth.{Truth}
 use Rattle.aqe_trees.specs.declared.expression.Truth.TheVariants as truth
-use Rattle.aqe_analysis.specs.Outcomes.{Outcome, upon}
+use Rattle.aqe_analysis.specs.Outcomes.{Outcome, upon, present}
 use Rattle.aqe_analysis.specs.Kinds.{is_same_kind, is_number, is_truth, is_text, wider}
-use Rattle.aqe_analysis.specs.Operations.{Typed, typed, mismatch, nearest, number, cast_to, converted, cast, common_kind, signed_by, signed_operation, arithmetic, product_operation, sum_operation, comparing, comparison, between, operands, in_list, like, is_operation, negation, logical, otherwise_of, results, tested_as, case_pairs, case, coalesce, length_of}
+use Rattle.aqe_analysis.specs.Operations.{Typed, typed, mismatch, nearest, number, cast_to, converted, cast, common_kind, signed_by, signed_operation, arithmetic, product_operation, sum_operation, comparing, comparison, between, operands, in_list, like, is_operation, negation, logical, otherwise_of, common_of_gives, common_of_tests, tested_as, case_pairs, case, coalesce, length_of}
 use Rattle.aqe_analysis.proofs.Gives.{Gives, IfAny, gives_upon, gives_all, gives_provided}
 
 abbrev pub Below : ℕ → Typed → Type 0
@@ -53,8 +53,11 @@ number-below n negative m long =
     either_one (Below n) (not long && fits_int (nearest negative m)) (typed (Literal (value.Int (nearest negative m))) sql.Int)
     (typed (Literal (value.BigInt (nearest negative m))) sql.BigInt) tt tt
 
+with_kind : (n : ℕ) (o : Outcome SqlType) (made : SqlType → Outcome Typed) → ((kind : SqlType) → Gives (Below n) (made kind)) → Gives (Below n) (upon o made)
+with_kind n o made h = gives_upon AnyKind (Below n) o made (gives_all AnyKind (λ k. tt) o) (λ kind u. h kind)
+
 with_common : (n : ℕ) (all : List Typed) (made : SqlType → Outcome Typed) → ((kind : SqlType) → Gives (Below n) (made kind)) → Gives (Below n) (upon (common_kind all) made)
-with_common n all made h = gives_upon AnyKind (Below n) (common_kind all) made (gives_all AnyKind (λ k. tt) (common_kind all)) (λ kind u. h kind)
+with_common n all made h = with_kind n (common_kind all) made h
 
 signed_by-below : (n : ℕ) (op : Sign) (a : Expr) → ColumnsBelow n a → ColumnsBelow n (signed_by op a)
 signed_by-below n sign.Plus a h = h
@@ -132,12 +135,12 @@ pub case-below : (n : ℕ) (a : Option Typed) (arms : List (Typed × Typed)) (ot
     IfAny (Below n) a → All (ArmBelow n) arms → IfAny (Below n) otherwise → Gives (Below n) (case a arms otherwise)
 case-below n None arms otherwise h k l =
     gives_provided (Below n) (list_all (λ arm. is_truth arm.0.kind) arms) mismatch _
-    (with_common n (results arms otherwise) (λ gives. Ok (typed (case_of (case_pairs None gives arms) (otherwise_of gives otherwise)) gives))
+    (with_kind n (present (common_of_gives arms otherwise) mismatch) (λ gives. Ok (typed (case_of (case_pairs None gives arms) (otherwise_of gives otherwise)) gives))
     (λ gives. (pairs-below n None gives arms k, otherwise-below n gives otherwise l)))
 case-below n (Some a) arms otherwise h k l =
-    with_common n (a ∷ map (λ arm. arm.0) arms) (λ tested. upon (common_kind (results arms otherwise)) (λ gives.
+    with_kind n (present (common_of_tests a.kind arms) mismatch) (λ tested. upon (present (common_of_gives arms otherwise) mismatch) (λ gives.
     Ok (typed (switch_of (converted tested a) (case_pairs (Some tested) gives arms) (otherwise_of gives otherwise)) gives)))
-    (λ tested. with_common n (results arms otherwise) (λ gives. Ok (typed (switch_of (converted tested a) (case_pairs (Some tested) gives arms) (otherwise_of gives otherwise)) gives))
+    (λ tested. with_kind n (present (common_of_gives arms otherwise) mismatch) (λ gives. Ok (typed (switch_of (converted tested a) (case_pairs (Some tested) gives arms) (otherwise_of gives otherwise)) gives))
     (λ gives. (converted-below n tested a h, pairs-below n (Some tested) gives arms k, otherwise-below n gives otherwise l)))
 
 pub coalesce-below : (n : ℕ) (all : List Typed) → All (Below n) all → Gives (Below n) (coalesce all)

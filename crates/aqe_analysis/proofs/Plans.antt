@@ -26,7 +26,7 @@ use Rattle.aqe_analysis.proofs.Below.{below_more}
 use Rattle.aqe_analysis.proofs.Readings.{ColumnFits, CallFits, read-fits}
 use Rattle.aqe_analysis.proofs.Sources.{Whole, numbered-fit, numbered-length, over-fits}
 use Rattle.aqe_analysis.proofs.Selects.{OutputFits, every, no_calls, position-given, after}
-use Rattle.aqe_analysis.proofs.Limits.{Laid}
+use Rattle.aqe_analysis.proofs.Bounds.{Laid}
 
 -- a plan that is laid out right and has m columns
 abbrev pub Has : ℕ → Logical → Type 0

@@ -27,7 +27,7 @@ use Rattle.aqe_analysis.proofs.Sources.{Whole, whole-items, whole-length, over-f
 use Rattle.aqe_analysis.proofs.Selects.{OutputFits, at-fits, aliases-fit, group_keys-below, outputs-fit, having-below, after, Ruled, built-below, calls-fit}
 use Rattle.aqe_analysis.proofs.Plans.{Has, fields-length, groups-laid, filtered-laid, projected-laid, distinct-laid, SortingFits, sortings-fit, hidden-all, keys-below, sorted-laid, without-laid, ordered-laid}
 use Rattle.aqe_analysis.proofs.Unions.{union-laid}
-use Rattle.aqe_analysis.proofs.Limits.{Laid, Bounded, within-bounded}
+use Rattle.aqe_analysis.proofs.Bounds.{Laid, Bounded, within-bounded}
 
 -- how many columns stand below the output columns of a SELECT with these calls
 abbrev under : Selected → List Call → ℕ

@@ -18,7 +18,7 @@ use Rattle.aqe_analysis.specs.Selects.{is_empty}
 use Rattle.aqe_analysis.specs.Analysis.{Core, rules, walk, select_over}
 use Rattle.aqe_analysis.specs.Laws.{PlansAreClosed, PlansAreWellFormed}
 use Rattle.aqe_analysis.proofs.Gives.{Gives, gives_upon, gives_weaker}
-use Rattle.aqe_analysis.proofs.Limits.{Laid, laid-closed, laid-well_formed}
+use Rattle.aqe_analysis.proofs.Bounds.{Laid, laid-closed, laid-well_formed}
 use Rattle.aqe_analysis.proofs.Sources.{FromFits, SourceFits, StepFits, table-fits, query-fits, join_all-fits, from_all-fits}
 use Rattle.aqe_analysis.proofs.Queries.{Done, CoreFits, NextFits, union_rule-laid, paren-laid, query-done, select_over-laid}
 

@@ -22,7 +22,7 @@ use Rattle.aqe_analysis.specs.Sources.{Catalog, Item, From, item, from_of, numbe
 use Rattle.aqe_analysis.proofs.Gives.{Gives, gives_upon, gives_provided}
 use Rattle.aqe_analysis.proofs.OperationsBelow.{Below}
 use Rattle.aqe_analysis.proofs.Readings.{ColumnFits, AliasFits, Fits, read-fits}
-use Rattle.aqe_analysis.proofs.Limits.{Laid, Bounded, within-bounded}
+use Rattle.aqe_analysis.proofs.Bounds.{Laid, Bounded, within-bounded}
 
 -- how many columns items have
 abbrev pub total : List Item → ℕ

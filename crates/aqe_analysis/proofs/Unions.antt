@@ -18,7 +18,7 @@ use Rattle.aqe_analysis.specs.Plans.{distinct_if}
 use Rattle.aqe_analysis.specs.Unions.{common_kinds, has_kinds, cast_columns, cast_fields, cast_side, union_of}
 use Rattle.aqe_analysis.proofs.Gives.{Gives, gives_upon, gives_all}
 use Rattle.aqe_analysis.proofs.OperationsBelow.{converted-below, either_one}
-use Rattle.aqe_analysis.proofs.Limits.{Laid, passed}
+use Rattle.aqe_analysis.proofs.Bounds.{Laid, passed}
 use Rattle.aqe_analysis.proofs.Sources.{within-laid}
 use Rattle.aqe_analysis.proofs.Plans.{Has, distinct-laid}
 

@@ -17,4 +17,5 @@ pub mod Plans
 pub mod Unions
 pub mod Analysis
 pub mod Faults
+pub mod Found
 pub mod Laws

@@ -144,14 +144,21 @@ negation a = on_truth unary.Not a
 abbrev pub logical : BinaryOp → Typed → Typed → Outcome Typed
 logical op a b = provided (is_truth a.kind && is_truth b.kind) mismatch (Ok (typed (binary_of op a.expr b.expr) sql.Boolean))
 
--- A CASE's results, its ELSE among them, have one common type. A missing ELSE is NULL, which needs no cast.
+-- The results of a CASE, its ELSE among them, have one common type. A missing ELSE is NULL, which needs no cast.
+abbrev pub common_of_results : List (Typed × Typed) → Option SqlType
+common_of_results arms = fold (λ so_far arm. common_with so_far arm.1.kind) (Some sql.NullType) arms
+
+abbrev pub common_of_gives : List (Typed × Typed) → Option Typed → Option SqlType
+common_of_gives arms None = common_of_results arms
+common_of_gives arms (Some otherwise) = common_with (common_of_results arms) otherwise.kind
+
 abbrev pub otherwise_of : SqlType → Option Typed → Expr
 otherwise_of kind None = Literal value.Null
 otherwise_of kind (Some a) = converted kind a
 
-abbrev pub results : List (Typed × Typed) → Option Typed → List Typed
-results arms None = map (λ arm. arm.1) arms
-results arms (Some otherwise) = map (λ arm. arm.1) arms ++ otherwise ∷ []
+-- the common type of an operand and of what it is compared with
+abbrev pub common_of_tests : SqlType → List (Typed × Typed) → Option SqlType
+common_of_tests kind arms = fold (λ so_far arm. common_with so_far arm.0.kind) (Some kind) arms
 
 -- the arms of a CASE, their tests as they are or converted to a type, and their results converted
 abbrev pub tested_as : Option SqlType → Typed → Expr
@@ -165,10 +172,10 @@ case_pairs tested gives (arm ∷ arms) = pair (tested_as tested arm.0) (converte
 -- without an operand each WHEN is a BOOLEAN; with one it and all WHEN values have one common type
 abbrev pub case : Option Typed → List (Typed × Typed) → Option Typed → Outcome Typed
 case None arms otherwise =
-    provided (list_all (λ arm. is_truth arm.0.kind) arms) mismatch (upon (common_kind (results arms otherwise)) (λ gives.
+    provided (list_all (λ arm. is_truth arm.0.kind) arms) mismatch (upon (present (common_of_gives arms otherwise) mismatch) (λ gives.
     Ok (typed (case_of (case_pairs None gives arms) (otherwise_of gives otherwise)) gives)))
 case (Some a) arms otherwise =
-    upon (common_kind (a ∷ map (λ arm. arm.0) arms)) (λ tested. upon (common_kind (results arms otherwise)) (λ gives.
+    upon (present (common_of_tests a.kind arms) mismatch) (λ tested. upon (present (common_of_gives arms otherwise) mismatch) (λ gives.
     Ok (typed (switch_of (converted tested a) (case_pairs (Some tested) gives arms) (otherwise_of gives otherwise)) gives)))
 
 -- coalesce gives the common type of its arguments; length wants a text and gives INT

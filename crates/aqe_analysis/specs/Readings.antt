@@ -11,6 +11,7 @@ use Rattle.aqe_expr.specs.declared.expr.Expr.{Column}
 use Rattle.aqe_logical.specs.declared.plan.AggCall.{AggCall}
 use Rattle.aqe_logical.specs.declared.plan.AggFun.{AggFun}
 use Rattle.aqe_logical.specs.declared.plan.AggFun.TheVariants.{Count, Sum, Min, Max}
+pub use Rattle.aqe_analysis.specs.declared.names.Named.{Named}
 use Rattle.aqe_analysis.specs.Outcomes.{refused, Outcome, upon, each, if_any, provided, the_only}
 use Rattle.aqe_analysis.specs.Kinds.{is_number}
 use Rattle.aqe_analysis.specs.Operations as operation
@@ -21,12 +22,6 @@ use Rattle.aqe_analysis.specs.Forms.{Forms}
 -- names are compared without ASCII case
 abbrev pub alike : List ℕ → List ℕ → Bool
 alike a b = str_eq_ignore_ascii_case a b
-
--- a column that names may mean: the name of its item of FROM, where it has one, its own name, and what it stands for
-pub record Named : Type 0 where
-  pub item : Option (List ℕ)
-  pub name : List ℕ
-  pub value : Typed
 
 -- an aggregate call, and the type of its values
 pub record Call : Type 0 where

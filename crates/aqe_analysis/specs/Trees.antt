@@ -1,17 +1,17 @@
 -- The forms of an expression, read off its tree.
 use Rattle.std.specs.Prelude.{ℕ, zero, suc, List, [], ◌∷◌, Bool, true, false}
 use Rattle.aqe_trees.specs.declared.expression.OrTree.{OrTree, OrTree-F, fold-OrTree}
-use Rattle.aqe_trees.specs.declared.expression.AndTree.{AndTree-F}
-use Rattle.aqe_trees.specs.declared.expression.NotTree.{NotTree-F}
-use Rattle.aqe_trees.specs.declared.expression.PredicateTree.{PredicateTree-F}
-use Rattle.aqe_trees.specs.declared.expression.Test.{Test-F}
-use Rattle.aqe_trees.specs.declared.expression.ComparisonTree.{ComparisonTree-F}
-use Rattle.aqe_trees.specs.declared.expression.SumTree.{SumTree-F}
+use Rattle.aqe_trees.specs.declared.expression.AndTree.{AndTree, AndTree-F, fold-AndTree}
+use Rattle.aqe_trees.specs.declared.expression.NotTree.{NotTree, NotTree-F, fold-NotTree}
+use Rattle.aqe_trees.specs.declared.expression.PredicateTree.{PredicateTree, PredicateTree-F, fold-PredicateTree}
+use Rattle.aqe_trees.specs.declared.expression.Test.{Test, Test-F, fold-Test}
+use Rattle.aqe_trees.specs.declared.expression.ComparisonTree.{ComparisonTree, ComparisonTree-F, fold-ComparisonTree}
+use Rattle.aqe_trees.specs.declared.expression.SumTree.{SumTree, SumTree-F, fold-SumTree}
 use Rattle.aqe_trees.specs.declared.expression.Sign.{Sign}
-use Rattle.aqe_trees.specs.declared.expression.ProductTree.{ProductTree-F}
-use Rattle.aqe_trees.specs.declared.expression.SignTree.{SignTree-F}
-use Rattle.aqe_trees.specs.declared.expression.PrimaryTree.{PrimaryTree-F}
-use Rattle.aqe_trees.specs.declared.expression.Arm.{Arm-F}
+use Rattle.aqe_trees.specs.declared.expression.ProductTree.{ProductTree, ProductTree-F, fold-ProductTree}
+use Rattle.aqe_trees.specs.declared.expression.SignTree.{SignTree, SignTree-F, fold-SignTree}
+use Rattle.aqe_trees.specs.declared.expression.PrimaryTree.{PrimaryTree, PrimaryTree-F, fold-PrimaryTree}
+use Rattle.aqe_trees.specs.declared.expression.Arm.{Arm, Arm-F, fold-Arm}
 use Rattle.aqe_analysis.specs.Forms.{Forms}
 
 -- NOT, so many times; signs, the outermost first; and NOT where a test is negated
@@ -84,6 +84,37 @@ module _ {A : Type 0} (rule : Forms A) where
 
   abbrev pub sum_level : SumTree-F A (A → A) A (A × A) A A A A A A A → A
   sum_level l = chain rule.sum l.first l.rest
+
+  -- what is made of a tree of each level
+  abbrev pub made_of_primary : PrimaryTree → A
+  made_of_primary = fold-PrimaryTree A (A → A) A (A × A) A A A A A A A primary_level test_level and_level arm_level comparison_level not_level or_level predicate_level product_level sign_level sum_level
+
+  abbrev pub made_of_test : Test → A → A
+  made_of_test = fold-Test A (A → A) A (A × A) A A A A A A A primary_level test_level and_level arm_level comparison_level not_level or_level predicate_level product_level sign_level sum_level
+
+  abbrev pub made_of_and : AndTree → A
+  made_of_and = fold-AndTree A (A → A) A (A × A) A A A A A A A primary_level test_level and_level arm_level comparison_level not_level or_level predicate_level product_level sign_level sum_level
+
+  abbrev pub made_of_arm : Arm → A × A
+  made_of_arm = fold-Arm A (A → A) A (A × A) A A A A A A A primary_level test_level and_level arm_level comparison_level not_level or_level predicate_level product_level sign_level sum_level
+
+  abbrev pub made_of_comparison : ComparisonTree → A
+  made_of_comparison = fold-ComparisonTree A (A → A) A (A × A) A A A A A A A primary_level test_level and_level arm_level comparison_level not_level or_level predicate_level product_level sign_level sum_level
+
+  abbrev pub made_of_not : NotTree → A
+  made_of_not = fold-NotTree A (A → A) A (A × A) A A A A A A A primary_level test_level and_level arm_level comparison_level not_level or_level predicate_level product_level sign_level sum_level
+
+  abbrev pub made_of_predicate : PredicateTree → A
+  made_of_predicate = fold-PredicateTree A (A → A) A (A × A) A A A A A A A primary_level test_level and_level arm_level comparison_level not_level or_level predicate_level product_level sign_level sum_level
+
+  abbrev pub made_of_product : ProductTree → A
+  made_of_product = fold-ProductTree A (A → A) A (A × A) A A A A A A A primary_level test_level and_level arm_level comparison_level not_level or_level predicate_level product_level sign_level sum_level
+
+  abbrev pub made_of_sign : SignTree → A
+  made_of_sign = fold-SignTree A (A → A) A (A × A) A A A A A A A primary_level test_level and_level arm_level comparison_level not_level or_level predicate_level product_level sign_level sum_level
+
+  abbrev pub made_of_sum : SumTree → A
+  made_of_sum = fold-SumTree A (A → A) A (A × A) A A A A A A A primary_level test_level and_level arm_level comparison_level not_level or_level predicate_level product_level sign_level sum_level
 
   -- what is made of an expression
   abbrev pub made_of : OrTree → A

@@ -1,8 +1,11 @@
 //! Analysis of queries: names, types and grouping, and the one plan of a query.
 #![tactic(auto)]
 
+mod cases;
 mod fault;
 mod laws;
+mod limits;
+mod names;
 mod operations;
 #[cfg(test)]
 mod tests;
