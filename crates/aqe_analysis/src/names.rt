@@ -6,7 +6,8 @@ ghost use Rattle.aqe_analysis.specs.Readings as spec;
 ghost use Rattle.aqe_analysis.specs.Sources.{over};
 ghost use Rattle.aqe_analysis.specs.Found as found;
 ghost use Rattle.aqe_analysis.specs.declared.names.Named.{Named};
-ghost use Rattle.aqe_analysis.specs.Faults.{Says};
+ghost use Rattle.aqe_analysis.specs.Outcomes as outcomes;
+ghost use Rattle.aqe_analysis.specs.Faults.{Says, Tells};
 
 use crate::AnalysisFault;
 use crate::operations::refused;
@@ -87,4 +88,68 @@ fn find<'a>(columns: &'a [Named], table: Option<&Text>, name: &Text) -> Found<'a
         }
     }
     so_far
+}
+
+/// `table.name`, or the name alone where that is longer than a text may be.
+fn told(alloc: Global, table: &Text, name: &Text) -> Result<Text, Memory>
+    ensures { IfOk result (λ t. t ≡ spec.told table.now name.now) }
+{
+    let mut whole = String::new(alloc);
+    whole.push_str(table.as_str())?;
+    whole.push_str(".")?;
+    whole.push_str(name.as_str())?;
+    if whole.len() <= 67_108_864 {
+        Text::copy_of(alloc, whole.as_str())
+    } else {
+        Text::copy_of(alloc, name.as_str())
+    }
+}
+
+/// The refusal of a kind that is about a column of an item.
+fn about(alloc: Global, kind: AnalysisKind, table: &Text, name: &Text) -> AnalysisFault
+    ensures { Tells result (outcomes.refused kind (spec.told table.now name.now)) }
+{
+    match told(alloc, table, name) {
+        Ok(name) => AnalysisFault::Refused { kind, name },
+        Err(_) => AnalysisFault::Memory,
+    }
+}
+
+/// What `table.name` means among the columns.
+#[tactic(auto, using(crate::proofs::FoundSteps::found_steps))]
+pub(crate) fn column_of_item(
+    alloc: Global,
+    table: &Text,
+    name: &Text,
+    columns: &[Named],
+) -> Result<Typed, AnalysisFault>
+    ensures { Says result (spec.column_of_item table.now name.now (over columns.now)) }
+{
+    match find(columns, Some(table), name) {
+        Found::One(column) => {
+            let value = column.value.copy(alloc)?;
+            Ok(value)
+        }
+        Found::Nothing => Err(about(alloc, AnalysisKind::NoSuchColumn, table, name)),
+        Found::Several => Err(about(alloc, AnalysisKind::Ambiguous, table, name)),
+    }
+}
+
+/// What a name means among the columns, where no alias may be used.
+#[tactic(auto, using(crate::proofs::FoundSteps::found_steps))]
+pub(crate) fn column_named(
+    alloc: Global,
+    name: &Text,
+    columns: &[Named],
+) -> Result<Typed, AnalysisFault>
+    ensures { Says result (spec.column_named name.now (over columns.now)) }
+{
+    match find(columns, None, name) {
+        Found::One(column) => {
+            let value = column.value.copy(alloc)?;
+            Ok(value)
+        }
+        Found::Nothing => Err(refused(alloc, AnalysisKind::NoSuchColumn, name.as_str())),
+        Found::Several => Err(refused(alloc, AnalysisKind::Ambiguous, name.as_str())),
+    }
 }

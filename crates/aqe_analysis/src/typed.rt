@@ -1,17 +1,31 @@
 //! Expressions with their types, and the types that operations ask for.
 
-ghost use Rattle.std.specs.Prelude.{◌≡◌};
+ghost use Rattle.std.specs.Prelude.{◌≡◌, IfOk};
 ghost use Rattle.aqe_analysis.specs.Kinds as kinds;
 ghost use Rattle.aqe_analysis.specs.Operations as operations;
 
 use aqe_expr::Expr;
-use aqe_values::SqlType;
+use aqe_values::{Memory, SqlType};
+use std::alloc::Global;
 
 /// An expression over the columns of a row, and the type of its values.
 #[derive(Drop)]
 pub(crate) struct Typed {
     pub(crate) expr: Expr,
     pub(crate) kind: SqlType,
+}
+
+impl Typed {
+    /// An expression and a type equal to these.
+    pub(crate) fn copy(&self, alloc: Global) -> Result<Typed, Memory>
+        ensures { IfOk result (λ t. t ≡ self.now) }
+    {
+        let expr = self.expr.copy(alloc)?;
+        Ok(Typed {
+            expr,
+            kind: self.kind,
+        })
+    }
 }
 
 /// The common type of two, where they have one.
