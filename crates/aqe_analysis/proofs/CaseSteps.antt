@@ -1,5 +1,5 @@
 -- CASE, as the code makes it.
-use Rattle.std.proofs.Common.{◌≡◌, List, [], ◌∷◌, ◌++◌, map, Bool, true, false, Option, Some, None, Ok, Err, refl, ap, ◌∙◌}
+use Rattle.std.proofs.Common.{◌≡◌, List, [], ◌∷◌, ◌++◌, map, true, false, Option, Some, None, Ok, refl, ap, ◌∙◌}
 use Rattle.std.specs.List.{list_all}
 use Rattle.aqe_values.specs.declared.sql_type.SqlType.{SqlType}
 use Rattle.aqe_expr.specs.declared.expr.Expr.{Expr}

@@ -1,5 +1,5 @@
 -- One column more behind what was found, and what a name means by what is found.
-use Rattle.std.proofs.Common.{◌≡◌, ℕ, List, [], ◌∷◌, ◌++◌, filter, Option, Some, None, Ok, Err, subst, ap, sym, ◌∙◌}
+use Rattle.std.proofs.Common.{◌≡◌, ℕ, List, [], ◌∷◌, ◌++◌, filter, Some, None, Ok, Err, subst, ap, sym, ◌∙◌}
 use denote.Ref.{Bor}
 use Rattle.aqe_analysis.specs.declared.names.Named.{Named}
 use Rattle.aqe_analysis.specs.declared.names.Found.{Found}

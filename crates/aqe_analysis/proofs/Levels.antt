@@ -1,5 +1,5 @@
 -- What is made of a tree of each level, from its parts.
-use Rattle.std.proofs.Common.{◌≡◌, List, map}
+use Rattle.std.proofs.Common.{◌≡◌, map}
 use Rattle.aqe_trees.specs.declared.expression.OrTree.{OrTree, out-OrTree, fold_out-OrTree}
 use Rattle.aqe_trees.specs.declared.expression.AndTree.{AndTree, out-AndTree, fold_out-AndTree}
 use Rattle.aqe_trees.specs.declared.expression.NotTree.{NotTree, out-NotTree, fold_out-NotTree}

@@ -1,5 +1,5 @@
 -- What a search for a name comes to.
-use Rattle.std.specs.Prelude.{◌≡◌, ℕ, Bool, true, ◌&&◌, List, [], ◌∷◌, Option, Some, None}
+use Rattle.std.specs.Prelude.{◌≡◌, ℕ, Bool, ◌&&◌, List, [], ◌∷◌, Option, Some, None}
 use Rattle.aqe_analysis.specs.declared.names.Named.{Named}
 use Rattle.aqe_analysis.specs.declared.names.Found.{Found}
 use Rattle.aqe_analysis.specs.declared.names.Found.TheVariants as search

@@ -1,5 +1,5 @@
 -- Expressions with their types, and the operations on them: what each asks of the types of its operands, and what it gives.
-use Rattle.std.specs.Prelude.{ℕ, ℤ, ◌^◌, ◌-◌, min, Bool, true, false, not, cond, ◌&&◌, List, [], ◌∷◌, ◌++◌, map, Option, Some, None, fold, Ok}
+use Rattle.std.specs.Prelude.{ℕ, ℤ, ◌^◌, ◌-◌, min, Bool, true, false, not, cond, ◌&&◌, List, [], ◌∷◌, Option, Some, None, fold, Ok}
 use Rattle.std.specs.List.{list_all}
 use Rattle.aqe_base.specs.declared.status.AnalysisKind.TheVariants.{TypeMismatch}
 use Rattle.aqe_values.specs.declared.sql_type.SqlType.{SqlType}

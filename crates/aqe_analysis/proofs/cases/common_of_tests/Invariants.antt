@@ -1,5 +1,4 @@
 use Rattle.std.proofs.Common.{◌≡◌, take, fold, Some}
-use Rattle.aqe_values.specs.declared.sql_type.SqlType.TheVariants as sql
 use Rattle.aqe_analysis.specs.Kinds.{common_with}
 use Rattle.aqe_analysis.proofs.cases.common_of_tests.Given as goal
 
