@@ -16,7 +16,7 @@ use Rattle.aqe_analysis.specs.QueryTrees.{core_level, source_level, step_level, 
 use Rattle.aqe_analysis.specs.Sources.{Catalog, From, from_all}
 use Rattle.aqe_analysis.specs.Selects.{is_empty}
 use Rattle.aqe_analysis.specs.Analysis.{Core, rules, walk, select_over}
-use Rattle.aqe_analysis.specs.Laws.{PlansAreClosed, PlansAreWellFormed}
+use Rattle.aqe_analysis.specs.Laws.{PlansAreClosed, PlansAreWellFormed, PlansAreBounded}
 use Rattle.aqe_analysis.proofs.Gives.{Gives, gives_upon, gives_weaker}
 use Rattle.aqe_analysis.proofs.Bounds.{Laid, laid-closed, laid-well_formed}
 use Rattle.aqe_analysis.proofs.Sources.{FromFits, SourceFits, StepFits, table-fits, query-fits, join_all-fits, from_all-fits}
@@ -99,3 +99,6 @@ closed tree catalog p e = laid-closed p (given Done (walk tree catalog) p (walk-
 
 pub well_formed : PlansAreWellFormed
 well_formed tree catalog p e = let done : Done p = given Done (walk tree catalog) p (walk-done tree catalog) e in laid-well_formed p done.0 done.1
+
+pub bounded : PlansAreBounded
+bounded tree catalog p e = (given Done (walk tree catalog) p (walk-done tree catalog) e).1

@@ -1,8 +1,9 @@
 -- The laws of the analysis.
-use Rattle.std.specs.Prelude.{◌≡◌, ◌↔◌, None}
+use Rattle.std.specs.Prelude.{◌≤◌, ◌≡◌, ◌↔◌, None}
 use Rattle.aqe_logical.specs.declared.plan.Logical.{Logical}
-use Rattle.aqe_logical.specs.WellFormed.{Closed, WellFormed}
+use Rattle.aqe_logical.specs.WellFormed.{Closed, WellFormed, column_limit}
 use Rattle.aqe_trees.specs.declared.query.QueryTree.{QueryTree}
+use Rattle.aqe_analysis.specs.Limits.{operator_limit, operator_count, most_columns}
 use Rattle.aqe_analysis.specs.Sources.{Catalog}
 use Rattle.aqe_analysis.specs.Analysis.{Analysed, first_check}
 
@@ -21,3 +22,7 @@ PlansAreClosed = (tree : QueryTree) (catalog : Catalog) (p : Logical) → Analys
 -- its plan is well formed
 abbrev pub PlansAreWellFormed : Type 0
 PlansAreWellFormed = (tree : QueryTree) (catalog : Catalog) (p : Logical) → Analysed tree catalog p → WellFormed p
+
+-- its plan keeps the two limits
+abbrev pub PlansAreBounded : Type 0
+PlansAreBounded = (tree : QueryTree) (catalog : Catalog) (p : Logical) → Analysed tree catalog p → (operator_count p ≤ operator_limit) × (most_columns p ≤ column_limit)

@@ -1,6 +1,6 @@
 //! Laws of the definitions, each the contract of a function that does nothing.
 
-ghost use Rattle.aqe_analysis.specs.Laws.{OnePlan, PlanOrCheck, PlansAreClosed, PlansAreWellFormed};
+ghost use Rattle.aqe_analysis.specs.Laws.{OnePlan, PlanOrCheck, PlansAreClosed, PlansAreWellFormed, PlansAreBounded};
 
 /// A query has at most one plan.
 pub fn one_plan()
@@ -20,4 +20,9 @@ pub fn plans_are_closed()
 /// The plan of a query is well formed.
 pub fn plans_are_well_formed()
     ensures { PlansAreWellFormed }
+{}
+
+/// The plan of a query has at most 256 operators, and no node of it more than 256 columns.
+pub fn plans_are_bounded()
+    ensures { PlansAreBounded }
 {}

@@ -12,4 +12,6 @@ mod tests;
 mod typed;
 
 pub use fault::AnalysisFault;
-pub use laws::{one_plan, plan_or_check, plans_are_closed, plans_are_well_formed};
+pub use laws::{
+    one_plan, plan_or_check, plans_are_bounded, plans_are_closed, plans_are_well_formed,
+};
