@@ -1,0 +1,4 @@
+pub mod Chain
+pub mod PartReadings
+pub mod JoinKinds
+pub mod Rules

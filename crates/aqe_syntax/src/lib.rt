@@ -1,0 +1,6 @@
+//! The reader of statements: from terminals to the tree that they spell, proved against the grammar in both directions.
+#![tactic(auto)]
+
+mod joins;
+mod parts;
+mod words;
