@@ -1,5 +1,5 @@
 -- The rules that hold queries: from the reading of the parts to that of the whole.
-use Rattle.std.proofs.Common.{ℕ, List, [], ◌∷◌, ◌++◌, Bool, true, false, ◌≡◌, ◌≤◌, ◌<◌, length, refl, sym, ap, arith, lit<}
+use Rattle.std.proofs.Common.{ℕ, List, [], ◌∷◌, ◌++◌, Bool, true, false, ◌≡◌, ◌≤◌, ◌<◌, length, refl, sym, ap, arith, lit<, Result, Ok, Err, MatchResult, Bor}
 use Rattle.std.specs.Prelude.{Option, Some, None}
 use Rattle.std.proofs.lemmas.List.{append-nil}
 use Rattle.std.proofs.Math.Seq.{append_snoc}
@@ -24,8 +24,9 @@ use Rattle.aqe_trees.specs.Follow.{binds_at, Stops}
 use Rattle.aqe_trees.specs.Lists.{Listed, IsClause, IsBound, IsAlias, IsDistinct}
 use Rattle.aqe_trees.specs.Queries.{IsItem, IsOrder, unordered, ordered, IsGroup, ungrouped, grouped, IsKind, join, inner, cross, left, left_outer, right, right_outer, full, full_outer, semi, left_semi, anti, left_anti, IsQuery, query_of, IsUnion, union_of, IsUnionRest, union_end, union_more, IsCore, core_paren, core_select, IsSelect, select_of, IsFrom, no_from, from_of, IsFromRest, from_end, from_more, IsJoined, joined_of, IsJoinedRest, joined_end, joined_more, IsSource, table, source_paren}
 use Rattle.aqe_trees.proofs.OneQuery.{clause_stop, bound_stop, items_begin, kind_binds, one_kind, joined_rest_stop, from_rest_stop, core_begin, union_rest_stop}
-use Rattle.aqe_reader.specs.Reading.{Read, Refuses, Part, Taken, Never}
-use Rattle.aqe_syntax.specs.Parts.{IsNested}
+use Rattle.aqe_reader.specs.Reading.{Read, Refuses, Part, Taken, Never, IsRefusal}
+use Rattle.aqe_reader.specs.declared.fault.ReadFault.{ReadFault}
+use Rattle.aqe_syntax.specs.Parts.{IsNested, IsTail, tail_of, IsConditions, conditions_of}
 use Rattle.aqe_syntax.proofs.Chain.{moved, Chain, Step, Ends, Stuck, chain_step, chain_done, chain_refused}
 
 order_stop : {a : List SortTree} {vs us : List Terminal} → IsOrder a vs us → Stops 3 us → Stops 4 vs
@@ -42,42 +43,67 @@ from_stop (from_of d r) s = lit< tt
 
 -- query
 
-query_only : {b : UnionTree} {o : List SortTree} {l f : Option ℕ} {v : QueryTree} {ts us vs ws xs zs : List Terminal} →
-    Read IsUnion 4 ts b us → Part IsOrder 3 us o vs → Part (IsBound k.Limit) 2 vs l ws → Part (IsBound k.Offset) 1 ws f xs →
-    IsQuery v ts zs → Stops 1 zs → (query_tree b o l f ≡ v) × (xs ≡ zs)
-query_only r p q n (query_of d e g h) s =
+tail_only : {b : UnionTree} {o : List SortTree} {l f : Option ℕ} {v : QueryTree} {ts vs ws us zs : List Terminal} →
+    Part IsOrder 3 ts o vs → Part (IsBound k.Limit) 2 vs l ws → Part (IsBound k.Offset) 1 ws f us →
+    IsTail b v ts zs → Stops 1 zs → (query_tree b o l f ≡ v) × (us ≡ zs)
+tail_only p q n (tail_of e g h) s =
     let s1 = bound_stop h s in
     let s2 = bound_stop g s1 in
-    let a = r.only _ _ d (order_stop e s2) in
-    let b = p.only _ _ (moved IsOrder a.1 e) s2 in
+    let b = p.only _ _ e s2 in
     let c = q.only _ _ (moved (IsBound k.Limit) b.1 g) s1 in
     let z = n.only _ _ (moved (IsBound k.Offset) c.1 h) s in
     (cc, z.1)
 
-pub query_read : {b : UnionTree} {o : List SortTree} {l f : Option ℕ} {ts us vs ws xs : List Terminal} →
-    Read IsUnion 4 ts b us → Part IsOrder 3 us o vs → Part (IsBound k.Limit) 2 vs l ws → Part (IsBound k.Offset) 1 ws f xs →
-    Read IsQuery 1 ts (query_tree b o l f) xs
-query_read r p q n = record {
-  found = query_of r.found p.found q.found n.found;
-  only = λ v ws d s. query_only r p q n d s;
-  shorter = let a = r.shorter in let b = p.within in let c = q.within in let d = n.within in omega arith
+pub tail_read : {b : UnionTree} {o : List SortTree} {l f : Option ℕ} {ts vs ws us : List Terminal} →
+    Part IsOrder 3 ts o vs → Part (IsBound k.Limit) 2 vs l ws → Part (IsBound k.Offset) 1 ws f us →
+    Part (IsTail b) 1 ts (query_tree b o l f) us
+tail_read p q n = record {
+  found = tail_of p.found q.found n.found;
+  only = λ v ws d s. tail_only p q n d s;
+  within = let a = p.within in let b = q.within in let c = n.within in omega arith
+}
+
+no_tail : {b : UnionTree} {v : QueryTree} {ts zs : List Terminal} → Refuses IsOrder 3 ts → IsTail b v ts zs → Stops 1 zs → ⊥
+no_tail n (tail_of e g h) s = n _ _ e (bound_stop g (bound_stop h s))
+
+pub tail_refused : {b : UnionTree} {ts : List Terminal} → Refuses IsOrder 3 ts → Refuses (IsTail b) 1 ts
+tail_refused n v ws d s = no_tail n d s
+
+whole : {b : UnionTree} {t : QueryTree} {ts us xs : List Terminal} → IsUnion b ts us → IsTail b t us xs → IsQuery t ts xs
+whole d (tail_of e g h) = query_of d e g h
+
+query_only : {b : UnionTree} {t v : QueryTree} {ts us xs zs : List Terminal} → Read IsUnion 4 ts b us → Part (IsTail b) 1 us t xs →
+    IsQuery v ts zs → Stops 1 zs → (t ≡ v) × (xs ≡ zs)
+query_only r p (query_of d e g h) s =
+    let a = r.only _ _ d (order_stop e (bound_stop g (bound_stop h s))) in
+    let z = p.only _ _ (tail_of (moved IsOrder a.1 e) g h) s in
+    (cc, z.1)
+
+query_read : {b : UnionTree} {t : QueryTree} {ts us xs : List Terminal} → Read IsUnion 4 ts b us → Part (IsTail b) 1 us t xs → Read IsQuery 1 ts t xs
+query_read r p = record {
+  found = whole r.found p.found;
+  only = λ v ws d s. query_only r p d s;
+  shorter = let a = r.shorter in let b = p.within in omega arith
 }
 
 no_body : {v : QueryTree} {ts zs : List Terminal} → Refuses IsUnion 4 ts → IsQuery v ts zs → Stops 1 zs → ⊥
 no_body n (query_of d e g h) s = n _ _ d (order_stop e (bound_stop g (bound_stop h s)))
 
-pub query_body_refused : {ts : List Terminal} → Refuses IsUnion 4 ts → Refuses IsQuery 1 ts
-query_body_refused n v ws d s = no_body n d s
+pub query_refused : {ts : List Terminal} → Refuses IsUnion 4 ts → Refuses IsQuery 1 ts
+query_refused n v ws d s = no_body n d s
 
-no_order : {b : UnionTree} {v : QueryTree} {ts us zs : List Terminal} → Read IsUnion 4 ts b us → Refuses IsOrder 3 us →
+no_query_tail : {b : UnionTree} {v : QueryTree} {ts us zs : List Terminal} → Read IsUnion 4 ts b us → Refuses (IsTail b) 1 us →
     IsQuery v ts zs → Stops 1 zs → ⊥
-no_order r n (query_of d e g h) s =
-    let z = bound_stop g (bound_stop h s) in
-    let a = r.only _ _ d (order_stop e z) in
-    n _ _ (moved IsOrder a.1 e) z
+no_query_tail r n (query_of d e g h) s =
+    let a = r.only _ _ d (order_stop e (bound_stop g (bound_stop h s))) in
+    n _ _ (tail_of (moved IsOrder a.1 e) g h) s
 
-pub query_order_refused : {b : UnionTree} {ts us : List Terminal} → Read IsUnion 4 ts b us → Refuses IsOrder 3 us → Refuses IsQuery 1 ts
-query_order_refused r n v ws d s = no_order r n d s
+-- what the reader of the tail answers is what that of the query does
+pub query_answer : {b : UnionTree} {ts us : List Terminal} (r : Result (QueryTree × Bor (List Terminal)) ReadFault) → Read IsUnion 4 ts b us →
+    MatchResult r (λ x. Part (IsTail b) 1 us x.0 x.1.now) (λ e. IsRefusal e → Refuses (IsTail b) 1 us) →
+    MatchResult r (λ x. Read IsQuery 1 ts x.0 x.1.now) (λ e. IsRefusal e → Refuses IsQuery 1 ts)
+query_answer (Ok x) r p = query_read r p
+query_answer (Err e) r n = λ f v ws d s. no_query_tail r (n f) d s
 
 -- a query behind its parenthesis
 
@@ -461,46 +487,97 @@ pub from_item_refused : {items : List JoinedTree} {ts start rest after : List Te
     rest ≡ Fixed k.Comma ∷ after → Refuses IsJoined 10 after → Refuses IsFrom 8 ts
 from_item_refused {start = start} e c f n = rw e (let r : Refuses IsFromItems 8 start = chain_refused c.chain (item_stuck f n) in r)
 
--- select
+-- conditions
 
-select_only : {once : Bool} {items : List ItemTree} {from : List JoinedTree} {filter having : Option OrTree} {group : List OrTree}
-    {v : SelectTree} {ts vs ws xs ys zs us bs : List Terminal} →
-    Part (IsDistinct false) 21 ts once vs → Read (Listed IsItem) 9 vs items ws → Part IsFrom 8 ws from xs →
-    Part (IsClause k.Where) 7 xs filter ys → Part IsGroup 6 ys group zs → Part (IsClause k.Having) 5 zs having us →
-    IsSelect v ts bs → Stops 5 bs → (select_tree once items from filter group having ≡ v) × (us ≡ bs)
-select_only a b c d e f (select_of a1 b1 c1 d1 e1 f1) s =
+conditions_only : {filter having : Option OrTree} {group : List OrTree} {v : Option OrTree × List OrTree × Option OrTree} {ts xs ys us zs : List Terminal} →
+    Part (IsClause k.Where) 7 ts filter xs → Part IsGroup 6 xs group ys → Part (IsClause k.Having) 5 ys having us →
+    IsConditions v ts zs → Stops 5 zs → ((filter, group, having) ≡ v) × (us ≡ zs)
+conditions_only d e f (conditions_of d1 e1 f1) s =
     let sf = clause_stop f1 s in
     let se = group_stop e1 sf in
-    let sd = clause_stop d1 se in
-    let p = a.only _ _ a1 (items_begin b1) in
-    let q = b.only _ _ (moved (Listed IsItem) p.1 b1) (from_stop c1 sd) in
-    let r = c.only _ _ (moved IsFrom q.1 c1) sd in
-    let t = d.only _ _ (moved (IsClause k.Where) r.1 d1) se in
+    let t = d.only _ _ d1 se in
     let u = e.only _ _ (moved IsGroup t.1 e1) sf in
     let w = f.only _ _ (moved (IsClause k.Having) u.1 f1) s in
     (cc, w.1)
 
-pub select_read : {once : Bool} {items : List ItemTree} {from : List JoinedTree} {filter having : Option OrTree} {group : List OrTree}
-    {ts vs ws xs ys zs us : List Terminal} →
+pub conditions_read : {filter having : Option OrTree} {group : List OrTree} {ts xs ys us : List Terminal} →
+    Part (IsClause k.Where) 7 ts filter xs → Part IsGroup 6 xs group ys → Part (IsClause k.Having) 5 ys having us →
+    Part IsConditions 5 ts (filter, group, having) us
+conditions_read d e f = record {
+  found = conditions_of d.found e.found f.found;
+  only = λ v ws n s. conditions_only d e f n s;
+  within = let t = d.within in let u = e.within in let w = f.within in omega arith
+}
+
+no_filter : {v : Option OrTree × List OrTree × Option OrTree} {ts zs : List Terminal} → Refuses (IsClause k.Where) 7 ts →
+    IsConditions v ts zs → Stops 5 zs → ⊥
+no_filter n (conditions_of d1 e1 f1) s = n _ _ d1 (group_stop e1 (clause_stop f1 s))
+
+pub filter_refused : {ts : List Terminal} → Refuses (IsClause k.Where) 7 ts → Refuses IsConditions 5 ts
+filter_refused n v ws d s = no_filter n d s
+
+no_group : {filter : Option OrTree} {v : Option OrTree × List OrTree × Option OrTree} {ts xs zs : List Terminal} →
+    Part (IsClause k.Where) 7 ts filter xs → Refuses IsGroup 6 xs → IsConditions v ts zs → Stops 5 zs → ⊥
+no_group d n (conditions_of d1 e1 f1) s =
+    let sf = clause_stop f1 s in
+    let t = d.only _ _ d1 (group_stop e1 sf) in
+    n _ _ (moved IsGroup t.1 e1) sf
+
+pub keys_refused : {filter : Option OrTree} {ts xs : List Terminal} → Part (IsClause k.Where) 7 ts filter xs → Refuses IsGroup 6 xs →
+    Refuses IsConditions 5 ts
+keys_refused d n v ws m s = no_group d n m s
+
+no_having : {filter : Option OrTree} {group : List OrTree} {v : Option OrTree × List OrTree × Option OrTree} {ts xs ys zs : List Terminal} →
+    Part (IsClause k.Where) 7 ts filter xs → Part IsGroup 6 xs group ys → Refuses (IsClause k.Having) 5 ys →
+    IsConditions v ts zs → Stops 5 zs → ⊥
+no_having d e n (conditions_of d1 e1 f1) s =
+    let sf = clause_stop f1 s in
+    let t = d.only _ _ d1 (group_stop e1 sf) in
+    let u = e.only _ _ (moved IsGroup t.1 e1) sf in
+    n _ _ (moved (IsClause k.Having) u.1 f1) s
+
+pub having_refused : {filter : Option OrTree} {group : List OrTree} {ts xs ys : List Terminal} → Part (IsClause k.Where) 7 ts filter xs →
+    Part IsGroup 6 xs group ys → Refuses (IsClause k.Having) 5 ys → Refuses IsConditions 5 ts
+having_refused d e n v ws m s = no_having d e n m s
+
+-- select
+
+joined_parts : {once : Bool} {items : List ItemTree} {from : List JoinedTree} {filter having : Option OrTree} {group : List OrTree}
+    {ts vs ws xs us : List Terminal} → IsDistinct false once ts vs → Listed IsItem items vs ws → IsFrom from ws xs →
+    IsConditions (filter, group, having) xs us → IsSelect (select_tree once items from filter group having) ts us
+joined_parts a b c (conditions_of d e f) = select_of a b c d e f
+
+select_only : {once : Bool} {items : List ItemTree} {from : List JoinedTree} {filter having : Option OrTree} {group : List OrTree}
+    {v : SelectTree} {ts vs ws xs us zs : List Terminal} →
     Part (IsDistinct false) 21 ts once vs → Read (Listed IsItem) 9 vs items ws → Part IsFrom 8 ws from xs →
-    Part (IsClause k.Where) 7 xs filter ys → Part IsGroup 6 ys group zs → Part (IsClause k.Having) 5 zs having us →
-    Read IsSelect 5 ts (select_tree once items from filter group having) us
-select_read a b c d e f = record {
-  found = select_of a.found b.found c.found d.found e.found f.found;
-  only = λ v ws n s. select_only a b c d e f n s;
-  shorter =
-      let p = a.within in let q = b.shorter in let r = c.within in
-      let t = d.within in let u = e.within in let w = f.within in omega arith
+    Part IsConditions 5 xs (filter, group, having) us → IsSelect v ts zs → Stops 5 zs →
+    (select_tree once items from filter group having ≡ v) × (us ≡ zs)
+select_only a b c n (select_of a1 b1 c1 d1 e1 f1) s =
+    let sd = clause_stop d1 (group_stop e1 (clause_stop f1 s)) in
+    let p = a.only _ _ a1 (items_begin b1) in
+    let q = b.only _ _ (moved (Listed IsItem) p.1 b1) (from_stop c1 sd) in
+    let r = c.only _ _ (moved IsFrom q.1 c1) sd in
+    let w = n.only _ _ (conditions_of (moved (IsClause k.Where) r.1 d1) e1 f1) s in
+    let f = ap (λ x. x.0) w.0 in
+    let g = ap (λ x. x.1) w.0 in
+    let h = ap (λ x. x.2) w.0 in
+    (cc, w.1)
+
+pub select_read : {once : Bool} {items : List ItemTree} {from : List JoinedTree} {filter having : Option OrTree} {group : List OrTree}
+    {ts vs ws xs us : List Terminal} →
+    Part (IsDistinct false) 21 ts once vs → Read (Listed IsItem) 9 vs items ws → Part IsFrom 8 ws from xs →
+    Part IsConditions 5 xs (filter, group, having) us → Read IsSelect 5 ts (select_tree once items from filter group having) us
+select_read a b c n = record {
+  found = joined_parts a.found b.found c.found n.found;
+  only = λ v ws d s. select_only a b c n d s;
+  shorter = let p = a.within in let q = b.shorter in let r = c.within in let t = n.within in omega arith
 }
 
 no_items : {once : Bool} {v : SelectTree} {ts vs us : List Terminal} → Part (IsDistinct false) 21 ts once vs → Refuses (Listed IsItem) 9 vs →
     IsSelect v ts us → Stops 5 us → ⊥
 no_items a n (select_of a1 b1 c1 d1 e1 f1) s =
-    let sf = clause_stop f1 s in
-    let se = group_stop e1 sf in
-    let sd = clause_stop d1 se in
     let p = a.only _ _ a1 (items_begin b1) in
-    n _ _ (moved (Listed IsItem) p.1 b1) (from_stop c1 sd)
+    n _ _ (moved (Listed IsItem) p.1 b1) (from_stop c1 (clause_stop d1 (group_stop e1 (clause_stop f1 s))))
 
 pub select_items_refused : {once : Bool} {ts vs : List Terminal} → Part (IsDistinct false) 21 ts once vs → Refuses (Listed IsItem) 9 vs →
     Refuses IsSelect 5 ts
@@ -509,9 +586,7 @@ select_items_refused a n v us d s = no_items a n d s
 no_from_part : {once : Bool} {items : List ItemTree} {v : SelectTree} {ts vs ws us : List Terminal} → Part (IsDistinct false) 21 ts once vs →
     Read (Listed IsItem) 9 vs items ws → Refuses IsFrom 8 ws → IsSelect v ts us → Stops 5 us → ⊥
 no_from_part a b n (select_of a1 b1 c1 d1 e1 f1) s =
-    let sf = clause_stop f1 s in
-    let se = group_stop e1 sf in
-    let sd = clause_stop d1 se in
+    let sd = clause_stop d1 (group_stop e1 (clause_stop f1 s)) in
     let p = a.only _ _ a1 (items_begin b1) in
     let q = b.only _ _ (moved (Listed IsItem) p.1 b1) (from_stop c1 sd) in
     n _ _ (moved IsFrom q.1 c1) sd
@@ -520,60 +595,17 @@ pub select_from_refused : {once : Bool} {items : List ItemTree} {ts vs ws : List
     Read (Listed IsItem) 9 vs items ws → Refuses IsFrom 8 ws → Refuses IsSelect 5 ts
 select_from_refused a b n v us d s = no_from_part a b n d s
 
-no_filter : {once : Bool} {items : List ItemTree} {from : List JoinedTree} {v : SelectTree} {ts vs ws xs us : List Terminal} →
+no_conditions : {once : Bool} {items : List ItemTree} {from : List JoinedTree} {v : SelectTree} {ts vs ws xs us : List Terminal} →
     Part (IsDistinct false) 21 ts once vs → Read (Listed IsItem) 9 vs items ws → Part IsFrom 8 ws from xs →
-    Refuses (IsClause k.Where) 7 xs → IsSelect v ts us → Stops 5 us → ⊥
-no_filter a b c n (select_of a1 b1 c1 d1 e1 f1) s =
-    let sf = clause_stop f1 s in
-    let se = group_stop e1 sf in
-    let sd = clause_stop d1 se in
+    Refuses IsConditions 5 xs → IsSelect v ts us → Stops 5 us → ⊥
+no_conditions a b c n (select_of a1 b1 c1 d1 e1 f1) s =
+    let sd = clause_stop d1 (group_stop e1 (clause_stop f1 s)) in
     let p = a.only _ _ a1 (items_begin b1) in
     let q = b.only _ _ (moved (Listed IsItem) p.1 b1) (from_stop c1 sd) in
     let r = c.only _ _ (moved IsFrom q.1 c1) sd in
-    n _ _ (moved (IsClause k.Where) r.1 d1) se
+    n _ _ (conditions_of (moved (IsClause k.Where) r.1 d1) e1 f1) s
 
-pub select_filter_refused : {once : Bool} {items : List ItemTree} {from : List JoinedTree} {ts vs ws xs : List Terminal} →
+pub select_conditions_refused : {once : Bool} {items : List ItemTree} {from : List JoinedTree} {ts vs ws xs : List Terminal} →
     Part (IsDistinct false) 21 ts once vs → Read (Listed IsItem) 9 vs items ws → Part IsFrom 8 ws from xs →
-    Refuses (IsClause k.Where) 7 xs → Refuses IsSelect 5 ts
-select_filter_refused a b c n v us d s = no_filter a b c n d s
-
-no_group : {once : Bool} {items : List ItemTree} {from : List JoinedTree} {filter : Option OrTree} {v : SelectTree}
-    {ts vs ws xs ys us : List Terminal} →
-    Part (IsDistinct false) 21 ts once vs → Read (Listed IsItem) 9 vs items ws → Part IsFrom 8 ws from xs →
-    Part (IsClause k.Where) 7 xs filter ys → Refuses IsGroup 6 ys → IsSelect v ts us → Stops 5 us → ⊥
-no_group a b c d n (select_of a1 b1 c1 d1 e1 f1) s =
-    let sf = clause_stop f1 s in
-    let se = group_stop e1 sf in
-    let sd = clause_stop d1 se in
-    let p = a.only _ _ a1 (items_begin b1) in
-    let q = b.only _ _ (moved (Listed IsItem) p.1 b1) (from_stop c1 sd) in
-    let r = c.only _ _ (moved IsFrom q.1 c1) sd in
-    let t = d.only _ _ (moved (IsClause k.Where) r.1 d1) se in
-    n _ _ (moved IsGroup t.1 e1) sf
-
-pub select_group_refused : {once : Bool} {items : List ItemTree} {from : List JoinedTree} {filter : Option OrTree} {ts vs ws xs ys : List Terminal} →
-    Part (IsDistinct false) 21 ts once vs → Read (Listed IsItem) 9 vs items ws → Part IsFrom 8 ws from xs →
-    Part (IsClause k.Where) 7 xs filter ys → Refuses IsGroup 6 ys → Refuses IsSelect 5 ts
-select_group_refused a b c d n v us m s = no_group a b c d n m s
-
-no_having : {once : Bool} {items : List ItemTree} {from : List JoinedTree} {filter : Option OrTree} {group : List OrTree} {v : SelectTree}
-    {ts vs ws xs ys zs us : List Terminal} →
-    Part (IsDistinct false) 21 ts once vs → Read (Listed IsItem) 9 vs items ws → Part IsFrom 8 ws from xs →
-    Part (IsClause k.Where) 7 xs filter ys → Part IsGroup 6 ys group zs → Refuses (IsClause k.Having) 5 zs →
-    IsSelect v ts us → Stops 5 us → ⊥
-no_having a b c d e n (select_of a1 b1 c1 d1 e1 f1) s =
-    let sf = clause_stop f1 s in
-    let se = group_stop e1 sf in
-    let sd = clause_stop d1 se in
-    let p = a.only _ _ a1 (items_begin b1) in
-    let q = b.only _ _ (moved (Listed IsItem) p.1 b1) (from_stop c1 sd) in
-    let r = c.only _ _ (moved IsFrom q.1 c1) sd in
-    let t = d.only _ _ (moved (IsClause k.Where) r.1 d1) se in
-    let u = e.only _ _ (moved IsGroup t.1 e1) sf in
-    n _ _ (moved (IsClause k.Having) u.1 f1) s
-
-pub select_having_refused : {once : Bool} {items : List ItemTree} {from : List JoinedTree} {filter : Option OrTree} {group : List OrTree}
-    {ts vs ws xs ys zs : List Terminal} →
-    Part (IsDistinct false) 21 ts once vs → Read (Listed IsItem) 9 vs items ws → Part IsFrom 8 ws from xs →
-    Part (IsClause k.Where) 7 xs filter ys → Part IsGroup 6 ys group zs → Refuses (IsClause k.Having) 5 zs → Refuses IsSelect 5 ts
-select_having_refused a b c d e n v us m s = no_having a b c d e n m s
+    Refuses IsConditions 5 xs → Refuses IsSelect 5 ts
+select_conditions_refused a b c n v us d s = no_conditions a b c n d s
