@@ -45,7 +45,7 @@ chain_step {T = T} {Is = Is} {whole = whole} {ts = ts} {x = x} c s e = record {
       let u = s.uncons b.0 us b.2 z in
       let q = e u.0 in
       (u.0, cc, u.2);
-  shorter = let a = s.less in let b = c.shorter in omega arith
+  shorter = let a = s.less in let b = c.shorter in omega arith;
 }
 
 pub chain_done : {T X : Type 0} {Is : T → List Terminal → List Terminal → Type 0} {More : List X → List Terminal → List Terminal → Type 0}
@@ -57,7 +57,7 @@ chain_done {T = T} {Is = Is} {ts = ts} {rest = rest} c n e = record {
       let b = c.back v ws d z in
       let o = n.only b.0 ws b.2 z in
       (cc, cc);
-  shorter = c.shorter
+  shorter = c.shorter;
 }
 
 pub chain_refused : {T X : Type 0} {Is : T → List Terminal → List Terminal → Type 0} {More : List X → List Terminal → List Terminal → Type 0}
@@ -82,7 +82,7 @@ comma_step : {T : Type 0} {Is : T → List Terminal → List Terminal → Type 0
 comma_step {Is = Is} e r = rw e (record {
   cons = λ ys us d. comma r.found d;
   uncons = λ zs us d s. comma_uncons r d s;
-  less = let a = r.shorter in omega arith
+  less = let a = r.shorter in omega arith;
 })
 
 no_more : {T : Type 0} {Is : T → List Terminal → List Terminal → Type 0} {ys : List T} {rest us : List Terminal} →
@@ -116,7 +116,7 @@ listed_first : {T : Type 0} {Is : T → List Terminal → List Terminal → Type
 listed_first r = record {
   more = λ ys us d. listed r.found d;
   back = λ t us d s. first_more r d s;
-  shorter = r.shorter
+  shorter = r.shorter;
 }
 
 pub listed_begin : {T : Type 0} {Is : T → List Terminal → List Terminal → Type 0} {x : T} {items : List T} {ts rest : List Terminal} →

@@ -222,7 +222,7 @@ pub clause_read : {key : Key} {x : OrTree} {ts after rest : List Terminal} → t
 clause_read e h r = rw e (record {
   found = clause r.found;
   only = λ v ws d s. clause_only refl h r d s;
-  within = let a = r.shorter in omega arith
+  within = let a = r.shorter in omega arith;
 })
 
 no_value : {key other : Key} {v : Option OrTree} {after ws : List Terminal} → key ≡ other → key_binds key < 14 → Refuses IsOr 14 after →
@@ -272,7 +272,7 @@ pub one_column_read : {x : OrTree} {name : Option (List ℕ)} {ts vs us : List T
 one_column_read m n r p = record {
   found = one_column r.found p.found;
   only = λ v ws d s. one_column_only m n r p d s;
-  shorter = let a = r.shorter in let b = p.within in omega arith
+  shorter = let a = r.shorter in let b = p.within in omega arith;
 }
 
 no_item : {v : ItemTree} {ts ws : List Terminal} →
@@ -320,7 +320,7 @@ pub sort_read : {x : OrTree} {down last : Bool} {ts ms bs us : List Terminal} �
 sort_read r p q = record {
   found = sort_of r.found p.found q.found;
   only = λ v ws d s. sort_only r p q d s;
-  shorter = let a = r.shorter in let b = p.within in let c = q.within in omega arith
+  shorter = let a = r.shorter in let b = p.within in let c = q.within in omega arith;
 }
 
 no_sort : {v : SortTree} {ts ws : List Terminal} → Refuses IsOr 14 ts → IsSort v ts ws → Stops 10 ws → ⊥
@@ -349,7 +349,7 @@ pub ordered_read : {x : List SortTree} {ts after us : List Terminal} → ts ≡ 
 ordered_read e r = rw e (record {
   found = ordered r.found;
   only = λ v ws d s. ordered_only r d s;
-  within = let a = r.shorter in omega arith
+  within = let a = r.shorter in omega arith;
 })
 
 no_sorts : {v : List SortTree} {after ws : List Terminal} → Refuses (Listed IsSort) 9 after →
@@ -381,7 +381,7 @@ pub grouped_read : {x : List OrTree} {ts after us : List Terminal} → ts ≡ Fi
 grouped_read e r = rw e (record {
   found = grouped r.found;
   only = λ v ws d s. grouped_only r d s;
-  within = let a = r.shorter in omega arith
+  within = let a = r.shorter in omega arith;
 })
 
 no_keys : {v : List OrTree} {after ws : List Terminal} → Refuses IsList 9 after →

@@ -1,5 +1,5 @@
 -- The rules that hold queries: from the reading of the parts to that of the whole.
-use Rattle.std.proofs.Common.{ℕ, List, [], ◌∷◌, ◌++◌, Bool, true, false, ◌≡◌, ◌≤◌, ◌<◌, length, refl, sym, ap, arith, lit<, Result, Ok, Err, MatchResult, Bor}
+use Rattle.std.proofs.Common.{ℕ, List, [], ◌∷◌, ◌++◌, Bool, true, false, ◌≡◌, ◌≤◌, ◌<◌, length, refl, sym, ap, subst, arith, lit<, Result, Ok, Err, MatchResult, Bor}
 use Rattle.std.specs.Prelude.{Option, Some, None}
 use Rattle.std.proofs.lemmas.List.{append-nil}
 use Rattle.std.proofs.Math.Seq.{append_snoc}
@@ -60,7 +60,7 @@ pub tail_read : {b : UnionTree} {o : List SortTree} {l f : Option ℕ} {ts vs ws
 tail_read p q n = record {
   found = tail_of p.found q.found n.found;
   only = λ v ws d s. tail_only p q n d s;
-  within = let a = p.within in let b = q.within in let c = n.within in omega arith
+  within = let a = p.within in let b = q.within in let c = n.within in omega arith;
 }
 
 no_tail : {b : UnionTree} {v : QueryTree} {ts zs : List Terminal} → Refuses IsOrder 3 ts → IsTail b v ts zs → Stops 1 zs → ⊥
@@ -83,7 +83,7 @@ query_read : {b : UnionTree} {t : QueryTree} {ts us xs : List Terminal} → Read
 query_read r p = record {
   found = whole r.found p.found;
   only = λ v ws d s. query_only r p d s;
-  shorter = let a = r.shorter in let b = p.within in omega arith
+  shorter = let a = r.shorter in let b = p.within in omega arith;
 }
 
 no_body : {v : QueryTree} {ts zs : List Terminal} → Refuses IsUnion 4 ts → IsQuery v ts zs → Stops 1 zs → ⊥
@@ -111,7 +111,7 @@ pub nested_read : {q : QueryTree} {ts rest us : List Terminal} → Read IsQuery 
 nested_read {rest = rest} {us = us} r e = record {
   found = let d = r.found in rw e at d;
   only = λ v ws d. let o = r.only v (Fixed k.Close ∷ ws) d (lit< tt) in (o.0, cc);
-  shorter = let a = r.shorter in let b : length rest ≡ length (Fixed k.Close ∷ us) = ap length e in omega arith
+  shorter = let a = r.shorter in let b : length rest ≡ length (Fixed k.Close ∷ us) = ap length e in omega arith;
 }
 
 pub nested_refused : {ts : List Terminal} → Refuses IsQuery 1 ts → Never IsNested ts
@@ -132,7 +132,7 @@ pub paren_core_read : {q : QueryTree} {ts after us : List Terminal} → ts ≡ F
 paren_core_read e r = rw e (record {
   found = core_paren r.found;
   only = λ v ws d s. paren_core_only r d;
-  shorter = let a = r.shorter in omega arith
+  shorter = let a = r.shorter in omega arith;
 })
 
 no_paren_core : {v : CoreTree} {after ws : List Terminal} → Never IsNested after → IsCore v (Fixed k.Open ∷ after) ws → ⊥
@@ -150,7 +150,7 @@ pub select_core_read : {x : SelectTree} {ts after us : List Terminal} → ts ≡
 select_core_read e r = rw e (record {
   found = core_select r.found;
   only = λ v ws d s. select_core_only r d s;
-  shorter = let a = r.shorter in omega arith
+  shorter = let a = r.shorter in omega arith;
 })
 
 no_select_core : {v : CoreTree} {after ws : List Terminal} → Refuses IsSelect 5 after → IsCore v (Fixed k.Select ∷ after) ws → Stops 5 ws → ⊥
@@ -179,7 +179,7 @@ pub table_read : {name : List ℕ} {alias : Option (List ℕ)} {quoted : Bool} {
 table_read e p = rw e (record {
   found = table p.found;
   only = λ v ws d s. table_only p d s;
-  shorter = let a = p.within in omega arith
+  shorter = let a = p.within in omega arith;
 })
 
 paren_source_only : {q : QueryTree} {alias : Option (List ℕ)} {v : SourceTree} {after rest us ws : List Terminal} →
@@ -195,7 +195,7 @@ pub paren_source_read : {q : QueryTree} {alias : Option (List ℕ)} {ts after re
 paren_source_read e r p = rw e (record {
   found = source_paren r.found p.found;
   only = λ v ws d s. paren_source_only r p d s;
-  shorter = let a = r.shorter in let b = p.within in omega arith
+  shorter = let a = r.shorter in let b = p.within in omega arith;
 })
 
 no_paren_source : {v : SourceTree} {after ws : List Terminal} → Never IsNested after → IsSource v (Fixed k.Open ∷ after) ws → ⊥
@@ -215,7 +215,7 @@ source_refused m n v ws d s = no_source m n d
 
 -- joined
 
-kind_shorter : {a : JoinKind} {ts us : List Terminal} → IsKind a ts us → length us < length ts
+pub kind_shorter : {a : JoinKind} {ts us : List Terminal} → IsKind a ts us → length us < length ts
 kind_shorter join = omega arith
 kind_shorter inner = omega arith
 kind_shorter cross = omega arith
@@ -245,8 +245,8 @@ joined_first r = record {
   chain = record {
     more = λ ys us d. joined_of r.found d;
     back = λ v us d s. first_source r d s;
-    shorter = r.shorter
-  }
+    shorter = r.shorter;
+  };
 }
 
 pub joined_begin : {x : SourceTree} {steps : List JoinStep} {ts rest : List Terminal} → Read IsSource 12 ts x rest → steps ≡ [] →
@@ -270,7 +270,7 @@ join_read : {kind : JoinKind} {x : SourceTree} {on : Option OrTree} {rest after 
 join_read j r p = record {
   cons = λ ys us d. joined_more j r.found p.found d;
   uncons = λ zs us d s. join_uncons j r p d s;
-  less = let a = kind_shorter j in let b = r.shorter in let c = p.within in omega arith
+  less = let a = kind_shorter j in let b = r.shorter in let c = p.within in omega arith;
 }
 
 pub joined_step : {kind : JoinKind} {first x : SourceTree} {on : Option OrTree} {steps next : List JoinStep} {ts rest after vs left : List Terminal} →
@@ -322,28 +322,18 @@ join_on_refused c j r n = chain_refused c.chain (λ ys us d s. no_condition j r 
 
 -- union
 
--- a core and those joined to it that are read so far
-pub record UnionSoFar (first : CoreTree) (cores : List (Bool × CoreTree)) (ts rest : List Terminal) : Type 0 where
-  pub chain : Chain IsUnion IsUnionRest 4 (λ ys. union_tree first (cores ++ ys)) ts rest
+-- the cores behind the first that are read so far
+pub record CoresSoFar (cores : List (Bool × CoreTree)) (ts rest : List Terminal) : Type 0 where
+  pub more : (ys : List (Bool × CoreTree)) (us : List Terminal) → IsUnionRest ys rest us → IsUnionRest (cores ++ ys) ts us
+  pub back : (zs : List (Bool × CoreTree)) (us : List Terminal) → IsUnionRest zs ts us → Stops 4 us →
+      (ys : List (Bool × CoreTree)) × (zs ≡ cores ++ ys) × IsUnionRest ys rest us
+  pub within : length rest ≤ length ts
 
-first_core : {x : CoreTree} {v : UnionTree} {ts rest us : List Terminal} → Read IsCore 5 ts x rest → IsUnion v ts us → Stops 4 us →
-    (ys : List (Bool × CoreTree)) × (v ≡ union_tree x ys) × IsUnionRest ys rest us
-first_core r (union_of {rest = ys} d q) s =
-    let o = r.only _ _ d (union_rest_stop q s) in
-    (ys, cc, moved IsUnionRest o.1 q)
+no_cores_yet : {ts : List Terminal} → CoresSoFar [] ts ts
+no_cores_yet = record { more = λ ys us d. d; back = λ zs us d s. (zs, refl, d); within = omega arith }
 
-union_first : {x : CoreTree} {ts rest : List Terminal} → Read IsCore 5 ts x rest → UnionSoFar x [] ts rest
-union_first r = record {
-  chain = record {
-    more = λ ys us d. union_of r.found d;
-    back = λ v us d s. first_core r d s;
-    shorter = r.shorter
-  }
-}
-
-pub union_begin : {x : CoreTree} {cores : List (Bool × CoreTree)} {ts rest : List Terminal} → Read IsCore 5 ts x rest → cores ≡ [] →
-    UnionSoFar x cores ts rest
-union_begin r e = rw e (union_first r)
+pub cores_begin : {cores : List (Bool × CoreTree)} {ts : List Terminal} → cores ≡ [] → CoresSoFar cores ts ts
+cores_begin e = rw e no_cores_yet
 
 union_uncons : {once : Bool} {x : CoreTree} {zs : List (Bool × CoreTree)} {after vs left us : List Terminal} →
     Part (IsDistinct true) 21 after once vs → Read IsCore 5 vs x left → IsUnionRest zs (Fixed k.Union ∷ after) us → Stops 4 us →
@@ -359,30 +349,41 @@ core_step : {once : Bool} {x : CoreTree} {rest after vs left : List Terminal} �
 core_step e p r = rw e (record {
   cons = λ ys us d. union_more p.found r.found d;
   uncons = λ zs us d s. union_uncons p r d s;
-  less = let a = p.within in let b = r.shorter in omega arith
+  less = let a = p.within in let b = r.shorter in omega arith;
 })
 
-pub union_step : {once : Bool} {first x : CoreTree} {cores next : List (Bool × CoreTree)} {ts rest after vs left : List Terminal} →
-    UnionSoFar first cores ts rest → rest ≡ Fixed k.Union ∷ after → Part (IsDistinct true) 21 after once vs → Read IsCore 5 vs x left →
-    next ≡ cores ++ (once, x) ∷ [] → UnionSoFar first next ts left
-union_step {once = once} {x = x} {cores = cores} c e p r n =
-    record { chain = chain_step c.chain (core_step e p r) (λ ys. rw n (rw (append_snoc cores (once, x) ys))) }
+cores_more : {x : Bool × CoreTree} {cores next : List (Bool × CoreTree)} {ts rest left : List Terminal} → CoresSoFar cores ts rest →
+    Step IsUnionRest 4 x rest left → next ≡ cores ++ x ∷ [] → CoresSoFar next ts left
+cores_more {x = x} {cores = cores} {ts = ts} c s n = rw n (record {
+  more = λ ys us d. rw (append_snoc cores x ys) (c.more (x ∷ ys) us (s.cons ys us d));
+  back = λ zs us d z.
+      let b = c.back zs us d z in
+      let u = s.uncons b.0 us b.2 z in
+      (u.0, rw (append_snoc cores x u.0) (cc), u.2);
+  within = let a = s.less in let b = c.within in omega arith;
+})
+
+pub cores_step : {once : Bool} {x : CoreTree} {cores next : List (Bool × CoreTree)} {ts rest after vs left : List Terminal} →
+    CoresSoFar cores ts rest → rest ≡ Fixed k.Union ∷ after → Part (IsDistinct true) 21 after once vs → Read IsCore 5 vs x left →
+    next ≡ cores ++ (once, x) ∷ [] → CoresSoFar next ts left
+cores_step c e p r n = cores_more c (core_step e p r) n
 
 no_union : {zs : List (Bool × CoreTree)} {rest us : List Terminal} → ((vs : List Terminal) → rest ≡ Fixed k.Union ∷ vs → ⊥) →
     IsUnionRest zs rest us → (zs ≡ []) × (us ≡ rest)
 no_union n union_end = (refl, refl)
 no_union n (union_more a d q) = absurd (n _ refl)
 
-pub union_done : {first : CoreTree} {cores : List (Bool × CoreTree)} {ts rest : List Terminal} → UnionSoFar first cores ts rest →
-    ((vs : List Terminal) → rest ≡ Fixed k.Union ∷ vs → ⊥) → Read IsUnion 4 ts (union_tree first cores) rest
-union_done {cores = cores} c n =
-    chain_done c.chain (record { here = union_end; only = λ ys us d s. no_union n d }) (rw (append-nil cores))
-
-no_first_core : {v : UnionTree} {ts us : List Terminal} → Refuses IsCore 5 ts → IsUnion v ts us → Stops 4 us → ⊥
-no_first_core n (union_of d q) s = n _ _ d (union_rest_stop q s)
-
-pub union_refused : {ts : List Terminal} → Refuses IsCore 5 ts → Refuses IsUnion 4 ts
-union_refused n v ws d s = no_first_core n d s
+pub cores_done : {cores : List (Bool × CoreTree)} {ts rest : List Terminal} → CoresSoFar cores ts rest →
+    ((vs : List Terminal) → rest ≡ Fixed k.Union ∷ vs → ⊥) → Part IsUnionRest 4 ts cores rest
+cores_done {cores = cores} {ts = ts} {rest = rest} c n = record {
+  found = subst (λ (x : List (Bool × CoreTree)). IsUnionRest x ts rest) (append-nil cores) (c.more [] rest union_end);
+  only = λ v ws d s.
+      let b = c.back v ws d s in
+      let o = no_union n b.2 in
+      let e = append-nil cores in
+      (cc, cc);
+  within = c.within;
+}
 
 no_next_core : {once : Bool} {zs : List (Bool × CoreTree)} {after vs us : List Terminal} → Part (IsDistinct true) 21 after once vs →
     Refuses IsCore 5 vs → IsUnionRest zs (Fixed k.Union ∷ after) us → Stops 4 us → ⊥
@@ -395,10 +396,40 @@ core_stuck : {once : Bool} {rest after vs : List Terminal} → rest ≡ Fixed k.
     Refuses IsCore 5 vs → Stuck IsUnionRest 4 rest
 core_stuck e p n = rw e (λ ys us d s. no_next_core p n d s)
 
-pub union_core_refused : {once : Bool} {first : CoreTree} {cores : List (Bool × CoreTree)} {ts rest after vs : List Terminal} →
-    UnionSoFar first cores ts rest → rest ≡ Fixed k.Union ∷ after → Part (IsDistinct true) 21 after once vs → Refuses IsCore 5 vs →
-    Refuses IsUnion 4 ts
-union_core_refused c e p n = chain_refused c.chain (core_stuck e p n)
+pub cores_refused : {once : Bool} {cores : List (Bool × CoreTree)} {ts rest after vs : List Terminal} →
+    CoresSoFar cores ts rest → rest ≡ Fixed k.Union ∷ after → Part (IsDistinct true) 21 after once vs → Refuses IsCore 5 vs →
+    Refuses IsUnionRest 4 ts
+cores_refused c e p n v us d s = let b = c.back v us d s in core_stuck e p n b.0 us b.2 s
+
+union_only : {x : CoreTree} {cores : List (Bool × CoreTree)} {v : UnionTree} {ts vs us ws : List Terminal} → Read IsCore 5 ts x vs →
+    Part IsUnionRest 4 vs cores us → IsUnion v ts ws → Stops 4 ws → (union_tree x cores ≡ v) × (us ≡ ws)
+union_only r p (union_of d q) s =
+    let o = r.only _ _ d (union_rest_stop q s) in
+    let n = p.only _ _ (moved IsUnionRest o.1 q) s in
+    (cc, n.1)
+
+pub union_read : {x : CoreTree} {cores : List (Bool × CoreTree)} {ts vs us : List Terminal} → Read IsCore 5 ts x vs →
+    Part IsUnionRest 4 vs cores us → Read IsUnion 4 ts (union_tree x cores) us
+union_read r p = record {
+  found = union_of r.found p.found;
+  only = λ v ws d s. union_only r p d s;
+  shorter = let a = r.shorter in let b = p.within in omega arith;
+}
+
+no_first_core : {v : UnionTree} {ts us : List Terminal} → Refuses IsCore 5 ts → IsUnion v ts us → Stops 4 us → ⊥
+no_first_core n (union_of d q) s = n _ _ d (union_rest_stop q s)
+
+pub union_refused : {ts : List Terminal} → Refuses IsCore 5 ts → Refuses IsUnion 4 ts
+union_refused n v ws d s = no_first_core n d s
+
+no_cores : {x : CoreTree} {v : UnionTree} {ts vs us : List Terminal} → Read IsCore 5 ts x vs → Refuses IsUnionRest 4 vs →
+    IsUnion v ts us → Stops 4 us → ⊥
+no_cores r n (union_of d q) s =
+    let o = r.only _ _ d (union_rest_stop q s) in
+    n _ _ (moved IsUnionRest o.1 q) s
+
+pub union_cores_refused : {x : CoreTree} {ts vs : List Terminal} → Read IsCore 5 ts x vs → Refuses IsUnionRest 4 vs → Refuses IsUnion 4 ts
+union_cores_refused r n v ws d s = no_cores r n d s
 
 -- from
 
@@ -407,7 +438,9 @@ IsFromItems items ts us = IsFrom items (Fixed k.From ∷ ts) us
 
 -- the items of FROM that are read so far
 pub record FromSoFar (items : List JoinedTree) (ts rest : List Terminal) : Type 0 where
-  pub chain : Chain IsFromItems IsFromRest 8 (λ ys. items ++ ys) ts rest
+  pub start : List Terminal
+  pub begins : ts ≡ Fixed k.From ∷ start
+  pub chain : Chain IsFromItems IsFromRest 8 (λ ys. items ++ ys) start rest
 
 first_from : {x : JoinedTree} {v : List JoinedTree} {ts rest us : List Terminal} → Read IsJoined 10 ts x rest →
     IsFrom v (Fixed k.From ∷ ts) us → Stops 8 us → (ys : List JoinedTree) × (v ≡ x ∷ ys) × IsFromRest ys rest us
@@ -416,18 +449,21 @@ first_from {us = us} r (from_of {rest = ys} d q) s =
     let o = r.only _ _ d (from_rest_stop q (let u : Stops 9 us = omega arith in u)) in
     (ys, cc, moved IsFromRest o.1 q)
 
-from_first : {x : JoinedTree} {ts rest : List Terminal} → Read IsJoined 10 ts x rest → FromSoFar ([] ++ x ∷ []) ts rest
-from_first r = record {
+from_first : {x : JoinedTree} {ts start rest : List Terminal} → ts ≡ Fixed k.From ∷ start → Read IsJoined 10 start x rest →
+    FromSoFar ([] ++ x ∷ []) ts rest
+from_first e r = record {
+  start = _;
+  begins = e;
   chain = record {
     more = λ ys us d. from_of r.found d;
     back = λ v us d s. first_from r d s;
-    shorter = r.shorter
-  }
+    shorter = r.shorter;
+  };
 }
 
-pub from_begin : {x : JoinedTree} {items : List JoinedTree} {ts rest : List Terminal} → Read IsJoined 10 ts x rest → items ≡ [] ++ x ∷ [] →
-    FromSoFar items ts rest
-from_begin r e = rw e (from_first r)
+pub from_begin : {x : JoinedTree} {items : List JoinedTree} {ts start rest : List Terminal} → ts ≡ Fixed k.From ∷ start →
+    Read IsJoined 10 start x rest → items ≡ [] ++ x ∷ [] → FromSoFar items ts rest
+from_begin b r e = rw e (from_first b r)
 
 from_uncons : {x : JoinedTree} {zs : List JoinedTree} {after left us : List Terminal} → Read IsJoined 10 after x left →
     IsFromRest zs (Fixed k.Comma ∷ after) us → Stops 8 us → (ys : List JoinedTree) × (zs ≡ x ∷ ys) × IsFromRest ys left us
@@ -441,12 +477,12 @@ item_step : {x : JoinedTree} {rest after left : List Terminal} → rest ≡ Fixe
 item_step e r = rw e (record {
   cons = λ ys us d. from_more r.found d;
   uncons = λ zs us d s. from_uncons r d s;
-  less = let a = r.shorter in omega arith
+  less = let a = r.shorter in omega arith;
 })
 
 pub from_step : {x : JoinedTree} {items next : List JoinedTree} {ts rest after left : List Terminal} → FromSoFar items ts rest →
     rest ≡ Fixed k.Comma ∷ after → Read IsJoined 10 after x left → next ≡ items ++ x ∷ [] → FromSoFar next ts left
-from_step {x = x} {items = items} c e r n = record { chain = chain_step c.chain (item_step e r) (λ ys. rw n (append_snoc items x ys)) }
+from_step {x = x} {items = items} c e r n = record { start = c.start; begins = c.begins; chain = chain_step c.chain (item_step e r) (λ ys. rw n (append_snoc items x ys)) }
 
 no_from_item : {zs : List JoinedTree} {rest us : List Terminal} → ((vs : List Terminal) → rest ≡ Fixed k.Comma ∷ vs → ⊥) →
     IsFromRest zs rest us → (zs ≡ []) × (us ≡ rest)
@@ -456,10 +492,10 @@ no_from_item n (from_more d q) = absurd (n _ refl)
 from_whole : {x : List JoinedTree} {after rest : List Terminal} → Read IsFromItems 8 after x rest → Part IsFrom 8 (Fixed k.From ∷ after) x rest
 from_whole r = record { found = r.found; only = r.only; within = let a = r.shorter in omega arith }
 
-pub from_done : {items : List JoinedTree} {ts after rest : List Terminal} → ts ≡ Fixed k.From ∷ after → FromSoFar items after rest →
+pub from_done : {items : List JoinedTree} {ts rest : List Terminal} → FromSoFar items ts rest →
     ((vs : List Terminal) → rest ≡ Fixed k.Comma ∷ vs → ⊥) → Part IsFrom 8 ts items rest
-from_done {items = items} e c n =
-    rw e (from_whole (chain_done c.chain (record { here = from_end; only = λ ys us d s. no_from_item n d }) (sym (append-nil items))))
+from_done {items = items} c n =
+    rw c.begins (from_whole (chain_done c.chain (record { here = from_end; only = λ ys us d s. no_from_item n d }) (sym (append-nil items))))
 
 no_from_only : {v : List JoinedTree} {ts ws : List Terminal} → ((us : List Terminal) → ts ≡ Fixed k.From ∷ us → ⊥) →
     IsFrom v ts ws → ([] ≡ v) × (ts ≡ ws)
@@ -483,9 +519,9 @@ no_next_item {us = us} n (from_more d q) s = n _ _ d (from_rest_stop q (let u : 
 item_stuck : {rest after : List Terminal} → rest ≡ Fixed k.Comma ∷ after → Refuses IsJoined 10 after → Stuck IsFromRest 8 rest
 item_stuck e n = rw e (λ ys us d s. no_next_item n d s)
 
-pub from_item_refused : {items : List JoinedTree} {ts start rest after : List Terminal} → ts ≡ Fixed k.From ∷ start → FromSoFar items start rest →
+pub from_item_refused : {items : List JoinedTree} {ts rest after : List Terminal} → FromSoFar items ts rest →
     rest ≡ Fixed k.Comma ∷ after → Refuses IsJoined 10 after → Refuses IsFrom 8 ts
-from_item_refused {start = start} e c f n = rw e (let r : Refuses IsFromItems 8 start = chain_refused c.chain (item_stuck f n) in r)
+from_item_refused c f n = rw c.begins (let r : Refuses IsFromItems 8 c.start = chain_refused c.chain (item_stuck f n) in r)
 
 -- conditions
 
@@ -506,7 +542,7 @@ pub conditions_read : {filter having : Option OrTree} {group : List OrTree} {ts 
 conditions_read d e f = record {
   found = conditions_of d.found e.found f.found;
   only = λ v ws n s. conditions_only d e f n s;
-  within = let t = d.within in let u = e.within in let w = f.within in omega arith
+  within = let t = d.within in let u = e.within in let w = f.within in omega arith;
 }
 
 no_filter : {v : Option OrTree × List OrTree × Option OrTree} {ts zs : List Terminal} → Refuses (IsClause k.Where) 7 ts →
@@ -570,7 +606,7 @@ pub select_read : {once : Bool} {items : List ItemTree} {from : List JoinedTree}
 select_read a b c n = record {
   found = joined_parts a.found b.found c.found n.found;
   only = λ v ws d s. select_only a b c n d s;
-  shorter = let p = a.within in let q = b.shorter in let r = c.within in let t = n.within in omega arith
+  shorter = let p = a.within in let q = b.shorter in let r = c.within in let t = n.within in omega arith;
 }
 
 no_items : {once : Bool} {v : SelectTree} {ts vs us : List Terminal} → Part (IsDistinct false) 21 ts once vs → Refuses (Listed IsItem) 9 vs →

@@ -3,4 +3,7 @@
 
 mod joins;
 mod parts;
+mod queries;
 mod words;
+
+pub use queries::query;

@@ -6,11 +6,12 @@ ghost use Rattle.aqe_trees.specs.Follow.{key_binds};
 ghost use Rattle.aqe_trees.specs.Lists.{Listed, IsClause, IsBound, IsAlias, IsDistinct};
 ghost use Rattle.aqe_trees.specs.Queries.{IsItem, IsWay, IsNulls, IsSort, IsOrder, IsGroup};
 ghost use Rattle.aqe_reader.specs.Reading.{Read, Refuses, Part, IsRefusal};
+ghost use Rattle.aqe_syntax.specs.Parts.{IsTail, IsConditions};
 
 use crate::words::{copied, is_word, name_star, number, pair, word};
 use aqe_reader::cursor::{eat, name};
 use aqe_reader::{ReadFault, expression, expressions};
-use aqe_trees::{ItemTree, Key, OrTree, SortTree, Terminal};
+use aqe_trees::{ItemTree, Key, OrTree, QueryTree, SortTree, Terminal, UnionTree};
 use aqe_values::{Memory, Text};
 use sqlite_items::Items;
 use std::alloc::Global;
@@ -217,4 +218,38 @@ pub fn group(
     };
     let (keys, rest) = expressions(alloc, after)?;
     Ok((keys, rest))
+}
+
+/// The conditions of a SELECT: of WHERE, the keys of GROUP BY, and of HAVING.
+pub type Conditions = (Option<OrTree>, Items<OrTree>, Option<OrTree>);
+
+/// `[WHERE or] [GROUP BY or {, or}] [HAVING or]`
+pub fn conditions(
+    alloc: Global,
+    terminals: &[Terminal],
+) -> Result<(Conditions, &[Terminal]), ReadFault>
+    ensures { MatchResult result
+        (λ x. Part IsConditions 5 terminals.now x.0 x.1.now)
+        (λ e. IsRefusal e → Refuses IsConditions 5 terminals.now) }
+{
+    let (filter, rest) = clause(alloc, terminals, Key::Where)?;
+    let (keys, rest) = group(alloc, rest)?;
+    let (having, rest) = clause(alloc, rest, Key::Having)?;
+    Ok(((filter, keys, having), rest))
+}
+
+/// `[ORDER BY sort {, sort}] [LIMIT number] [OFFSET number]` behind the body, and the query that they make of it.
+pub fn tail(
+    alloc: Global,
+    body: UnionTree,
+    terminals: &[Terminal],
+) -> Result<(QueryTree, &[Terminal]), ReadFault>
+    ensures { MatchResult result
+        (λ x. Part (IsTail body) 1 terminals.now x.0 x.1.now)
+        (λ e. IsRefusal e → Refuses (IsTail body) 1 terminals.now) }
+{
+    let (sorts, rest) = order(alloc, terminals)?;
+    let (limit, rest) = bound(rest, Key::Limit);
+    let (offset, rest) = bound(rest, Key::Offset);
+    Ok((QueryTree::new(body, sorts, limit, offset), rest))
 }
