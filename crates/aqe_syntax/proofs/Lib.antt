@@ -2,3 +2,4 @@ pub mod Chain
 pub mod PartReadings
 pub mod JoinKinds
 pub mod Rules
+pub mod TableReadings

@@ -4,6 +4,8 @@
 mod joins;
 mod parts;
 mod queries;
+mod tables;
 mod words;
 
 pub use queries::query;
+pub use tables::create;

@@ -67,6 +67,29 @@ pub fn name_star(terminals: &[Terminal]) -> Option<(&Text, bool, &[Terminal])>
     Some((text, quoted, rest))
 }
 
+/// The content of the string that comes first, and what stands behind it.
+pub fn literal(terminals: &[Terminal]) -> Option<(&Text, &[Terminal])>
+    ensures { MatchOption result
+        ((text : _) (us : _) → terminals.now ≡ Terminal.Literal text ∷ us → ⊥)
+        (λ x. terminals.now ≡ Terminal.Literal x.0.now ∷ x.1.now) }
+{
+    match next(terminals) {
+        Some((Terminal::Literal(text), rest)) => Some((text, rest)),
+        _ => None,
+    }
+}
+
+/// The name that comes first, with a parenthesis that opens behind it, and what stands behind that.
+pub fn name_open(terminals: &[Terminal]) -> Option<(&Text, bool, &[Terminal])>
+    ensures { MatchOption result
+        ((text : _) (quoted : _) (us : _) → terminals.now ≡ Terminal.Name text quoted ∷ Terminal.Fixed Key.Open ∷ us → ⊥)
+        (λ x. terminals.now ≡ Terminal.Name x.0.now x.1 ∷ Terminal.Fixed Key.Open ∷ x.2.now) }
+{
+    let (text, quoted, rest) = name(terminals)?;
+    let rest = eat(rest, Key::Open)?;
+    Some((text, quoted, rest))
+}
+
 /// A copy of the text.
 pub fn copied(alloc: Global, text: &Text) -> Result<Text, Memory>
     ensures { IfOk result (λ t. t ≡ text.now) }
