@@ -1,0 +1,9 @@
+pub mod Reserved
+pub mod Texts
+pub mod Terminals
+pub mod Settings
+pub mod Statements
+pub mod Depth
+pub mod ExpressionPaths
+pub mod QueryPaths
+pub mod Laws
