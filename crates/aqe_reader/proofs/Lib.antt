@@ -1,0 +1,10 @@
+pub mod Operands
+pub mod Predicates
+pub mod RunFacts
+pub mod Cases
+pub mod ListChain
+pub mod OrChain
+pub mod AndChain
+pub mod ComparisonChain
+pub mod SumChain
+pub mod ProductChain

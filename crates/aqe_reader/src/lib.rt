@@ -6,21 +6,45 @@ ghost use Rattle.aqe_trees.specs.Expressions.{IsOr, IsList};
 ghost use Rattle.aqe_reader.specs.Reading.{Read, Refuses, IsRefusal};
 
 use aqe_trees::{OrTree, Terminal};
+use chains::or;
+use list::list;
+use nest::Nest;
 use sqlite_items::Items;
 use std::alloc::Global;
 
+mod case;
+mod chains;
 pub mod cursor;
 mod fault;
+mod list;
+mod nest;
+mod predicate;
+mod primary;
+mod runs;
+mod words;
 
 pub use fault::ReadFault;
 
 /// The expression at the front of the terminals, and what stands behind it.
-pub fn expression(alloc: Global, terminals: &[Terminal]) -> Result<(OrTree, &[Terminal]), ReadFault>
+pub fn expression<'a>(
+    alloc: Global,
+    terminals: &'a [Terminal],
+) -> Result<(OrTree, &'a [Terminal]), ReadFault>
     ensures { MatchResult result
         (λ x. Read IsOr 14 terminals.now x.0 x.1.now)
         (λ e. IsRefusal e → Refuses IsOr 14 terminals.now) }
 {
-    Err(ReadFault::Memory)
+    let read = |within|
+        ensures { MatchResult result
+            (λ x. Read IsOr 14 within.now x.0 x.1.now)
+            (λ e. IsRefusal e → Refuses IsOr 14 within.now) }
+    { expression(alloc, within) };
+    let nest = Nest {
+        alloc,
+        room: terminals.len(),
+        read,
+    };
+    or(&nest, terminals)
 }
 
 /// The expressions with commas between them at the front of the terminals, and what stands behind them.
@@ -32,5 +56,12 @@ pub fn expressions(
         (λ x. Read IsList 9 terminals.now x.0 x.1.now)
         (λ e. IsRefusal e → Refuses IsList 9 terminals.now) }
 {
-    Err(ReadFault::Memory)
+    let room = terminals.len() + 1;
+    let read = |within|
+        ensures { MatchResult result
+            (λ x. Read IsOr 14 within.now x.0 x.1.now)
+            (λ e. IsRefusal e → Refuses IsOr 14 within.now) }
+    { expression(alloc, within) };
+    let nest = Nest { alloc, room, read };
+    list(&nest, terminals)
 }

@@ -1,0 +1,9 @@
+use Rattle.std.proofs.Common.{length}
+use Rattle.aqe_reader.proofs.ProductChain.{ProductLeft}
+use Rattle.aqe_reader.proofs.chains.product.Given as goal
+
+abbrev pub invariant-more : goal.invariant-more
+invariant-more g l = ProductLeft l.terminals l.rest l.first l.items
+
+abbrev pub decreases-more : goal.decreases-more
+decreases-more g l = length l.rest

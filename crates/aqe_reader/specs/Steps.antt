@@ -1,0 +1,48 @@
+-- What the readers of parts leave behind.
+use Rattle.std.specs.Prelude.{ℕ, List, ◌∷◌, ◌++◌, ◌+◌, ◌≤◌, ◌≡◌, Bool, true, false, Option, Some, None, length}
+use Rattle.aqe_trees.specs.declared.terminal.Key.TheVariants as k
+use Rattle.aqe_trees.specs.declared.terminal.Terminal.{Terminal}
+use Rattle.aqe_trees.specs.declared.terminal.Terminal.TheVariants.{Fixed}
+use Rattle.aqe_trees.specs.declared.expression.OrTree.{OrTree}
+use Rattle.aqe_trees.specs.declared.expression.PredicateTree.{PredicateTree}
+use Rattle.aqe_trees.specs.declared.expression.PrimaryTree.{PrimaryTree}
+use Rattle.aqe_trees.specs.declared.expression.Sign.{Sign}
+use Rattle.aqe_trees.specs.declared.expression.Arm.{Arm}
+use Rattle.aqe_trees.specs.Shapes.{arm}
+use Rattle.aqe_trees.specs.Expressions.{IsOr, IsNots, IsSigns, IsArms}
+
+-- count NOTs stand before rest
+pub record NotsLeft (ts rest : List Terminal) (count : ℕ) : Type 0 where
+  pub more : (n : ℕ) (t : PredicateTree) (us : List Terminal) → IsNots n t rest us → IsNots (count + n) t ts us
+  pub back : (n : ℕ) (t : PredicateTree) (us : List Terminal) → IsNots n t ts us → (m : ℕ) × (n ≡ count + m) × IsNots m t rest us
+  pub within : count + length rest ≤ length ts
+
+-- the signs stand before rest
+pub record SignsLeft (ts rest : List Terminal) (signs : List Sign) : Type 0 where
+  pub more : (ops : List Sign) (t : PrimaryTree) (us : List Terminal) → IsSigns ops t rest us → IsSigns (signs ++ ops) t ts us
+  pub back : (ops : List Sign) (t : PrimaryTree) (us : List Terminal) → IsSigns ops t ts us → (more : List Sign) × (ops ≡ signs ++ more) × IsSigns more t rest us
+  pub within : length rest ≤ length ts
+
+-- the terminals behind NOT, or as they are
+abbrev pub told : Bool → List Terminal → List Terminal
+told true ts = Fixed k.Not ∷ ts
+told false ts = ts
+
+-- ts is rest, behind NOT where that comes first
+abbrev pub Told : List Terminal → Bool → List Terminal → Type 0
+Told ts true rest = ts ≡ Fixed k.Not ∷ rest
+Told ts false rest = (ts ≡ rest) × ((us : List Terminal) → ts ≡ Fixed k.Not ∷ us → ⊥)
+
+-- the operand of a CASE, which is absent where WHEN comes first
+pub data IsOperand : Option OrTree → List Terminal → List Terminal → Type 0 where
+  no_operand : {us : List Terminal} → IsOperand None (Fixed k.When ∷ us) (Fixed k.When ∷ us)
+  an_operand : {value : OrTree} {ts us : List Terminal} → IsOr value ts us → IsOperand (Some value) ts us
+
+-- or THEN or
+pub data IsArm : Arm → List Terminal → List Terminal → Type 0 where
+  arm_of : {when gives : OrTree} {ts vs us : List Terminal} →
+      IsOr when ts (Fixed k.Then ∷ vs) → IsOr gives vs us → IsArm (arm when gives) ts us
+
+-- {WHEN or THEN or} [ELSE or] END
+abbrev pub IsBranches : List Arm × Option OrTree → List Terminal → List Terminal → Type 0
+IsBranches t ts us = IsArms t.0 t.1 ts us

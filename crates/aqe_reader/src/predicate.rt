@@ -1,0 +1,153 @@
+//! A predicate: a value and what is asked of it.
+
+ghost use Rattle.std.specs.Prelude.{◌≡◌, ◌∷◌, ◌≤◌, length, MatchResult};
+ghost use Rattle.aqe_trees.specs.declared.terminal.Key.TheVariants as k;
+ghost use Rattle.aqe_trees.specs.declared.terminal.Terminal.TheVariants.{Fixed};
+ghost use Rattle.aqe_trees.specs.Expressions.{IsOr, IsPredicate, IsTest};
+ghost use Rattle.aqe_reader.specs.Reading.{Read, Part, Refuses, IsRefusal};
+ghost use Rattle.aqe_reader.specs.Nesting.{Nests};
+ghost use Rattle.aqe_reader.specs.Steps.{told, Told};
+
+use crate::ReadFault;
+use crate::chains::comparison;
+use crate::cursor::eat;
+use crate::list::list;
+use crate::nest::Nest;
+use crate::words::truth_at;
+use aqe_trees::{Key, OrTree, PredicateTree, Terminal, Test};
+
+/// `comparison [test]`
+pub(crate) fn predicate<'a, F>(
+    nest: &Nest<F>,
+    terminals: &'a [Terminal],
+) -> Result<(PredicateTree, &'a [Terminal]), ReadFault>
+where
+    F: Fn(&'a [Terminal]) -> Result<(OrTree, &'a [Terminal]), ReadFault>,
+    requires nests { Nests F.Fn nest.now.read nest.now.room }
+    requires room { length terminals.now ≤ nest.now.room }
+    ensures { MatchResult result
+        (λ x. Read IsPredicate 16 terminals.now x.0 x.1.now)
+        (λ e. IsRefusal e → Refuses IsPredicate 16 terminals.now) }
+{
+    let (value, rest) = comparison(nest, terminals)?;
+    let (test, left) = test(nest, rest)?;
+    Ok((PredicateTree::new(value, test), left))
+}
+
+/// Whether NOT comes first, and what stands behind it.
+fn negation(terminals: &[Terminal]) -> (bool, &[Terminal])
+    ensures { Told terminals.now result.0 result.1.now }
+{
+    match eat(terminals, Key::Not) {
+        Some(rest) => (true, rest),
+        None => (false, terminals),
+    }
+}
+
+/// What is asked of a value, which may be nothing.
+fn test<'a, F>(
+    nest: &Nest<F>,
+    terminals: &'a [Terminal],
+) -> Result<(Test, &'a [Terminal]), ReadFault>
+where
+    F: Fn(&'a [Terminal]) -> Result<(OrTree, &'a [Terminal]), ReadFault>,
+    requires nests { Nests F.Fn nest.now.read nest.now.room }
+    requires room { length terminals.now ≤ nest.now.room }
+    ensures { MatchResult result
+        (λ x. Part IsTest 16 terminals.now x.0 x.1.now)
+        (λ e. IsRefusal e → Refuses IsTest 16 terminals.now) }
+{
+    let (negated, rest) = negation(terminals);
+    if let Some(after) = eat(rest, Key::Between) {
+        return between(nest, negated, after);
+    }
+    if let Some(after) = eat(rest, Key::In) {
+        return one_of(nest, negated, after);
+    }
+    if let Some(after) = eat(rest, Key::Like) {
+        return like(nest, negated, after);
+    }
+    match eat(terminals, Key::Is) {
+        Some(after) => is(after),
+        None => Ok((Test::Plain, terminals)),
+    }
+}
+
+/// `low AND high`, behind BETWEEN.
+fn between<'a, F>(
+    nest: &Nest<F>,
+    negated: bool,
+    terminals: &'a [Terminal],
+) -> Result<(Test, &'a [Terminal]), ReadFault>
+where
+    F: Fn(&'a [Terminal]) -> Result<(OrTree, &'a [Terminal]), ReadFault>,
+    requires nests { Nests F.Fn nest.now.read nest.now.room }
+    requires room { length terminals.now ≤ nest.now.room }
+    ensures { MatchResult result
+        (λ x. Read (λ t ts us. IsTest t (told negated (Fixed k.Between ∷ ts)) us) 16 terminals.now x.0 x.1.now)
+        (λ e. IsRefusal e → Refuses (λ t ts us. IsTest t (told negated (Fixed k.Between ∷ ts)) us) 16 terminals.now) }
+{
+    let (low, rest) = comparison(nest, terminals)?;
+    let Some(after) = eat(rest, Key::And) else {
+        return Err(ReadFault::Refused { left: rest.len() });
+    };
+    let (high, left) = comparison(nest, after)?;
+    Ok((Test::between(negated, low, high), left))
+}
+
+/// `( or {, or} )`, behind IN.
+fn one_of<'a, F>(
+    nest: &Nest<F>,
+    negated: bool,
+    terminals: &'a [Terminal],
+) -> Result<(Test, &'a [Terminal]), ReadFault>
+where
+    F: Fn(&'a [Terminal]) -> Result<(OrTree, &'a [Terminal]), ReadFault>,
+    requires nests { Nests F.Fn nest.now.read nest.now.room }
+    requires room { length terminals.now ≤ nest.now.room }
+    ensures { MatchResult result
+        (λ x. Read (λ t ts us. IsTest t (told negated (Fixed k.In ∷ ts)) us) 16 terminals.now x.0 x.1.now)
+        (λ e. IsRefusal e → Refuses (λ t ts us. IsTest t (told negated (Fixed k.In ∷ ts)) us) 16 terminals.now) }
+{
+    let Some(inside) = eat(terminals, Key::Open) else {
+        return Err(ReadFault::Refused {
+            left: terminals.len(),
+        });
+    };
+    let (items, rest) = list(nest, inside)?;
+    let Some(left) = eat(rest, Key::Close) else {
+        return Err(ReadFault::Refused { left: rest.len() });
+    };
+    Ok((Test::one_of(negated, items), left))
+}
+
+/// The pattern, behind LIKE.
+fn like<'a, F>(
+    nest: &Nest<F>,
+    negated: bool,
+    terminals: &'a [Terminal],
+) -> Result<(Test, &'a [Terminal]), ReadFault>
+where
+    F: Fn(&'a [Terminal]) -> Result<(OrTree, &'a [Terminal]), ReadFault>,
+    requires nests { Nests F.Fn nest.now.read nest.now.room }
+    requires room { length terminals.now ≤ nest.now.room }
+    ensures { MatchResult result
+        (λ x. Read (λ t ts us. IsTest t (told negated (Fixed k.Like ∷ ts)) us) 16 terminals.now x.0 x.1.now)
+        (λ e. IsRefusal e → Refuses (λ t ts us. IsTest t (told negated (Fixed k.Like ∷ ts)) us) 16 terminals.now) }
+{
+    let (pattern, left) = comparison(nest, terminals)?;
+    Ok((Test::like(negated, pattern), left))
+}
+
+/// `[NOT] (NULL | TRUE | FALSE)`, behind IS.
+fn is(terminals: &[Terminal]) -> Result<(Test, &[Terminal]), ReadFault>
+    ensures { MatchResult result
+        (λ x. Read (λ t ts us. IsTest t (Fixed k.Is ∷ ts) us) 16 terminals.now x.0 x.1.now)
+        (λ e. IsRefusal e → Refuses (λ t ts us. IsTest t (Fixed k.Is ∷ ts) us) 16 terminals.now) }
+{
+    let (negated, rest) = negation(terminals);
+    match truth_at(rest) {
+        Some((truth, left)) => Ok((Test::Is { negated, truth }, left)),
+        None => Err(ReadFault::Refused { left: rest.len() }),
+    }
+}
