@@ -1,6 +1,8 @@
 -- The first place of a list that passes a test, and the parts of a list between such places.
-use Rattle.std.proofs.Common.{ℕ, List, [], ◌∷◌, ◌≡◌, ◌≤◌, ◌<◌, ◌+◌, ◌-◌, Bool, true, false, not, length, take, drop, get_or, refl, sym, subst, ap, arith, inl, inr, ◌∙◌, All}
+use Rattle.std.proofs.Common.{ℕ, zero, suc, List, [], ◌∷◌, ◌≡◌, ◌≤◌, ◌<◌, ◌+◌, ◌-◌, Bool, true, false, not, length, take, drop, get_or, refl, sym, subst, ap, arith, inl, inr, ◌∙◌, All}
 use Rattle.std.specs.List.{position_or_len, slice_split}
+use Rattle.aqe_lexer.specs.declared.token.Token.{Token}
+use Rattle.aqe_lexer.specs.Spans.{InOrder}
 use Rattle.std.proofs.lemmas.Bool.{cases_lt}
 use Rattle.std.proofs.lemmas.List.{take_all, length-drop}
 use Rattle.std.proofs.lemmas.List.Elements.{All-from_get_or, All-take, All-drop}
@@ -40,3 +42,21 @@ two_parts p xs n d e h =
     let whole : take (length xs - (n + 1)) (drop (n + 1) xs) ≡ drop (n + 1) xs = take_all _ _ (omega (arith, length-drop (n + 1) xs)) in
     subst (λ (ys : List _). slice_split p xs ≡ take n xs ∷ slice_split p ys) (sym whole)
       (subst (λ (m : ℕ). slice_split p xs ≡ take m xs ∷ slice_split p (drop (m + 1) xs)) (sym e) first)
+
+in_order_low : (at : ℕ) (ts : List Token) → InOrder at ts → InOrder 0 ts
+in_order_low at [] o = tt
+in_order_low at (t ∷ ts) o = (omega arith, o.1)
+
+in_order_take : (n at : ℕ) (ts : List Token) → InOrder at ts → InOrder at (take n ts)
+in_order_take zero at ts o = tt
+in_order_take (suc n) at [] o = tt
+in_order_take (suc n) at (t ∷ ts) o = (o.0, in_order_take n t.end ts o.1)
+
+in_order_drop : (n at : ℕ) (ts : List Token) → InOrder at ts → InOrder 0 (drop n ts)
+in_order_drop zero at ts o = in_order_low at ts o
+in_order_drop (suc n) at [] o = tt
+in_order_drop (suc n) at (t ∷ ts) o = in_order_drop n t.end ts o.1
+
+-- the parts of tokens in order are in order
+pub parts_in_order : (n k : ℕ) (ts : List Token) → InOrder 0 ts → InOrder 0 (take n ts) × InOrder 0 (take k (drop (n + 1) ts))
+parts_in_order n k ts o = (in_order_take n 0 ts o, in_order_take k 0 (drop (n + 1) ts) (in_order_drop (n + 1) 0 ts o))

@@ -2,6 +2,7 @@ pub mod Reserved
 pub mod Texts
 pub mod Terminals
 pub mod Settings
+pub mod SettingSteps
 pub mod Statements
 pub mod Depth
 pub mod ExpressionPaths

@@ -2,7 +2,7 @@
 
 ghost use Rattle.std.specs.Prelude.{◌≡◌, ◌∷◌, ◌<◌, ◌≤◌, [], length, All, MatchOption};
 ghost use Rattle.std.specs.List.{position_or_len};
-ghost use Rattle.aqe_lexer.specs.Spans.{StandsIn};
+ghost use Rattle.aqe_lexer.specs.Spans.{StandsIn, InOrder};
 ghost use Rattle.aqe_script.specs.Statements as spec;
 
 use crate::key_of;
@@ -39,6 +39,7 @@ pub fn cut<'a>(source: &str, tokens: &'a [Token]) -> (&'a [Token], Option<&'a [T
         (λ rest. spec.parts_of source.now tokens.now ≡ result.0.now ∷ spec.parts_of source.now rest.now) }
     ensures part { All (StandsIn source.now) result.0.now }
     ensures rest { MatchOption result.1 (Unit {0}) (λ rest. All (StandsIn source.now) rest.now) }
+    ensures order { InOrder 0 tokens.now → InOrder 0 result.0.now × MatchOption result.1 (Unit {0}) (λ rest. InOrder 0 rest.now) }
     ensures shorter { MatchOption result.1 (Unit {0}) (λ rest. length rest.now < length tokens.now) }
 {
     let len = part_len(source, tokens);
