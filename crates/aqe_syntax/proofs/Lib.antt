@@ -3,3 +3,4 @@ pub mod PartReadings
 pub mod JoinKinds
 pub mod Rules
 pub mod TableReadings
+pub mod SentenceReadings

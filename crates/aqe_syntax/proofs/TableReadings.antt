@@ -492,11 +492,11 @@ create_place_refused h r f n v d = no_place_at h r f n d
 
 -- the small steps
 
-pub emptied : {b : Bool} (ts : List Terminal) → b ≡ (length ts == 0) → b ≡ true → ts ≡ []
+pub emptied : {A : Type 0} {b : Bool} (ts : List A) → b ≡ (length ts == 0) → b ≡ true → ts ≡ []
 emptied [] e f = refl
 emptied (t ∷ ts) e f = absurd (grind (arith, nat_tests))
 
-pub not_emptied : {b : Bool} (ts : List Terminal) → b ≡ (length ts == 0) → b ≡ false → ts ≡ [] → ⊥
+pub not_emptied : {A : Type 0} {b : Bool} (ts : List A) → b ≡ (length ts == 0) → b ≡ false → ts ≡ [] → ⊥
 not_emptied ts e f g =
     let h = ap length g in
     grind (arith, nat_tests)

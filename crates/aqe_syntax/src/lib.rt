@@ -1,11 +1,15 @@
 //! The reader of statements: from terminals to the tree that they spell, proved against the grammar in both directions.
 #![tactic(auto)]
 
+mod fault;
 mod joins;
 mod parts;
 mod queries;
+mod scripts;
+mod statements;
 mod tables;
 mod words;
 
+pub use fault::SyntaxFault;
 pub use queries::query;
 pub use tables::create;
