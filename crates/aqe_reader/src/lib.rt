@@ -21,6 +21,8 @@ mod nest;
 mod predicate;
 mod primary;
 mod runs;
+#[cfg(test)]
+mod tests;
 mod words;
 
 pub use fault::ReadFault;
