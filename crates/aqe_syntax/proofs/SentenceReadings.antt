@@ -146,11 +146,11 @@ step_at : {source : List ℕ} {whole parts : List (List Token)} {script next : L
     ScriptSoFar source whole script (part ∷ parts) → Adds source script next part → ScriptSoFar source whole next parts
 step_at c adds_nothing = record {
   more = λ ys d. c.more ys (st.nothing d);
-  back = λ zs d. let b = c.back zs d in (b.0, behind_nothing b.1)
+  back = λ zs d. let b = c.back zs d in (b.0, behind_nothing b.1);
 }
 step_at {source = source} {whole = whole} c (adds_one {script = script} {one = one} d) = record {
   more = λ ys r. subst (λ (x : List Stmt). st.AreStatements source x whole) (sym (append_snoc script one ys)) (c.more (one ∷ ys) (st.statement d r));
-  back = λ zs r. let b = c.back zs r in behind_one b.1
+  back = λ zs r. let b = c.back zs r in behind_one b.1;
 }
 
 pub script_step : {source : List ℕ} {whole now parts : List (List Token)} {script next : List Stmt} {part : List Token} →

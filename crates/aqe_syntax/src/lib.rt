@@ -8,8 +8,11 @@ mod queries;
 mod scripts;
 mod statements;
 mod tables;
+#[cfg(test)]
+mod tests;
 mod words;
 
 pub use fault::SyntaxFault;
 pub use queries::query;
+pub use scripts::read_script;
 pub use tables::create;

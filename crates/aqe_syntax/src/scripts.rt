@@ -30,7 +30,7 @@ fn placed(source: &str, tokens: &[Token], part: usize, fault: ReadFault) -> Synt
 }
 
 /// The statements that the tokens are, whatever their depth.
-fn statements(alloc: Global, source: &str, tokens: &[Token]) -> Result<Script, SyntaxFault>
+pub fn read_script(alloc: Global, source: &str, tokens: &[Token]) -> Result<Script, SyntaxFault>
     requires stand { All (StandsIn source.now) tokens.now }
     requires order { InOrder 0 tokens.now }
     requires size { length source.now ≤ text_limit }

@@ -88,7 +88,12 @@ fn statement(alloc: Global, source: &str, tokens: &[Token]) -> Result<Stmt, Read
 }
 
 /// Adds the statement that the part is, or nothing where it has no tokens.
-pub fn add(alloc: Global, source: &str, part: &[Token], script: &mut Script) -> Result<(), ReadFault>
+pub fn add(
+    alloc: Global,
+    source: &str,
+    part: &[Token],
+    script: &mut Script,
+) -> Result<(), ReadFault>
     requires stand { All (StandsIn source.now) part.now }
     requires order { InOrder 0 part.now }
     requires size { length source.now ≤ text_limit }

@@ -1,5 +1,5 @@
 use Rattle.aqe_syntax.proofs.SentenceReadings.{script_begin, script_step, script_done, script_fault}
-use Rattle.aqe_syntax.proofs.scripts.statements.Goals as goal
+use Rattle.aqe_syntax.proofs.scripts.read_script.Goals as goal
 
 pub parts-init : goal.parts-init
 parts-init c = (script_begin c.new-script.ensures, c.requires.stand, c.requires.order)
