@@ -1,5 +1,5 @@
 -- A property of some element, over the first and the rest.
-use Rattle.std.proofs.Common.{ℕ, zero, suc, List, [], ◌∷◌, ◌≡◌, ◌<◌, ◌+◌, length, get_or, refl, sym, subst, arith, inl, inr, ◌⊎◌, ◌↔◌}
+use Rattle.std.proofs.Common.{zero, suc, List, [], ◌∷◌, ◌≡◌, refl, sym, subst, arith, ◌↔◌}
 use Rattle.std.specs.Prelude.{Any, Option, Some, None, MatchOption}
 
 pub any_here : {X : Type 0} (P : X → Type 0) (x : X) (xs : List X) → P x → Any P (x ∷ xs)
@@ -17,9 +17,10 @@ nothing P (i, y, l, e, h) = absurd (omega (arith, l))
 
 -- where the first has it not, some element of the whole has it exactly where some element of the rest has it
 pub any_go_on : {X : Type 0} (P : X → Type 0) (x : X) (all more : List X) (W : Type 0) → all ≡ x ∷ more → (P x → ⊥) → (Any P all ↔ W) → (Any P more ↔ W)
-any_go_on P x all more W e not_here same =
-    (λ a. same.0 (subst (λ (l : List _). Any P l) (sym e) (any_later P x more a)),
-     λ w. any_rest P x more not_here (subst (λ (l : List _). Any P l) e (same.1 w)))
+any_go_on P x all more W e not_here same = (
+  λ a. same.0 (subst (λ (l : List _). Any P l) (sym e) (any_later P x more a)),
+  λ w. any_rest P x more not_here (subst (λ (l : List _). Any P l) e (same.1 w)),
+)
 
 -- where the first has it, some element of the whole has it
 pub any_found : {X : Type 0} (P : X → Type 0) (x : X) (all more : List X) (W : Type 0) → all ≡ x ∷ more → P x → (Any P all ↔ W) → W

@@ -1,5 +1,5 @@
 -- Counting what is open, token by token.
-use Rattle.std.proofs.Common.{ℕ, List, [], ◌∷◌, ◌≡◌, ◌≤◌, ◌<◌, ◌+◌, Bool, true, false, length, take, get_or, refl, sym, subst, ap, arith, inl, inr, ◌∙◌, cond}
+use Rattle.std.proofs.Common.{ℕ, List, ◌≡◌, ◌≤◌, ◌<◌, ◌+◌, Bool, length, take, get_or, refl, sym, subst, ap, arith, inl, inr, ◌∙◌, cond}
 use Rattle.std.specs.List.{filter}
 use Rattle.std.proofs.lemmas.List.Filters.{length-filter_more}
 use Rattle.std.proofs.lemmas.List.Sums.{length-filter, count_by-le-length}
@@ -31,15 +31,15 @@ begun source part = record {
   closes_so_far = refl;
   opens_few = omega arith;
   closes_few = omega arith;
-  shallow = λ n h. none_open source part n (omega (arith, h))
-  }
+  shallow = λ n h. none_open source part n (omega (arith, h));
+}
 
 -- what holds up to a number and of the next holds up to the next
 extended : (P : ℕ → Type 0) (i : ℕ) → ((n : ℕ) → n ≤ i → P n) → P (i + 1) → (n : ℕ) → n ≤ i + 1 → P n
 extended P i before next n h = elim (cases_lt n (i + 1)) [
-    | inl low ↦ before n (omega (arith, low))
-    | inr high ↦ subst P (omega (arith, h, high)) next
-  ]
+  | inl low ↦ before n (omega (arith, low))
+  | inr high ↦ subst P (omega (arith, h, high)) next
+]
 
 -- what one more token adds to the count of those that pass a test
 one_more : (p : Token → Bool) (part : List Token) (t : Token) (i a b : ℕ) → i < length part → a ≡ length (filter p (take i part)) → b ≡ cond (p (get_or part i t)) 1 0 →
@@ -52,13 +52,13 @@ one_more p part t i a b h m n =
 pub not_deep : {source : List ℕ} {part : List Token} {opens closes i : ℕ} → Counted source part opens closes i → length part ≤ i →
     IsOpenTooDeep source part → ⊥
 not_deep {source = source} {part = part} {i = i} k h d = elim (cases_lt i d.0) [
-    | inl far ↦
-        let whole : take d.0 part ≡ take i part = take_all d.0 part (omega (arith, h, far)) ∙ sym (take_all i part h) in
-        let n : opened source (take d.0 part) ≤ closed source (take d.0 part) + depth_limit =
-            subst (λ (ts : List Token). opened source ts ≤ closed source ts + depth_limit) (sym whole) (k.shallow i (omega arith)) in
-        absurd (omega (arith, n, d.1))
-    | inr near ↦ absurd (omega (arith, k.shallow d.0 near, d.1))
-  ]
+  | inl far ↦
+      let whole : take d.0 part ≡ take i part = take_all d.0 part (omega (arith, h, far)) ∙ sym (take_all i part h) in
+      let n : opened source (take d.0 part) ≤ closed source (take d.0 part) + depth_limit =
+      subst (λ (ts : List Token). opened source ts ≤ closed source ts + depth_limit) (sym whole) (k.shallow i (omega arith)) in
+      absurd (omega (arith, n, d.1))
+  | inr near ↦ absurd (omega (arith, k.shallow d.0 near, d.1))
+]
 
 -- where more are open than the limit, the part is too deep
 pub deep_here : {source : List ℕ} {part : List Token} {opens closes i a b : ℕ} (t : Token) {key : Option Key} → Counted source part opens closes i →
@@ -80,5 +80,5 @@ counted_on {source = source} {part = part} {opens = opens} {closes = closes} {i 
       closes_so_far = c;
       opens_few = omega (arith, p, few (λ (x : Token). key_opens (key_of source x)) part (i + 1) (omega (arith, h)));
       closes_few = omega (arith, c, few (λ (x : Token). key_closes (key_of source x)) part (i + 1) (omega (arith, h)));
-      shallow = extended (λ (n : ℕ). opened source (take n part) ≤ closed source (take n part) + depth_limit) i k.shallow (omega (arith, p, c, s))
+      shallow = extended (λ (n : ℕ). opened source (take n part) ≤ closed source (take n part) + depth_limit) i k.shallow (omega (arith, p, c, s));
     }

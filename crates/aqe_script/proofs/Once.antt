@@ -1,5 +1,5 @@
 -- The tokens of a source are at most one script.
-use Rattle.std.proofs.Common.{ℕ, List, [], ◌∷◌, ◌≡◌, refl, lit<, Bool, true, false}
+use Rattle.std.proofs.Common.{ℕ, List, ◌∷◌, ◌≡◌, refl, lit<, Bool, true, false}
 use Rattle.std.specs.Prelude.{Option, Some, None}
 use Rattle.aqe_lexer.specs.declared.token.Token.{Token}
 use Rattle.aqe_trees.specs.declared.terminal.Key.{Key}

@@ -1,5 +1,5 @@
 -- Reading the key of a SET word by word.
-use Rattle.std.proofs.Common.{ℕ, List, [], ◌∷◌, ◌++◌, ◌≡◌, ◌≤◌, ◌<◌, ◌+◌, ◌-◌, length, take, drop, refl, sym, subst, ap, arith, ◌∙◌, append_assoc, length-append, Some, All}
+use Rattle.std.proofs.Common.{ℕ, List, [], ◌∷◌, ◌++◌, ◌≡◌, ◌≤◌, ◌<◌, ◌+◌, ◌-◌, length, drop, refl, sym, subst, ap, arith, ◌∙◌, append_assoc, length-append, Some, All}
 use Rattle.std.specs.List.{slice_range, slice_get}
 use Rattle.std.proofs.lemmas.List.{length-take, nil_from_length}
 use Rattle.std.proofs.lemmas.List.Elements.{All-head, All-tail}
@@ -35,8 +35,8 @@ pub key_begun : {source : List ℕ} {t : Token} {rest : List Token} → t.kind �
 key_begun {source = source} {t = t} {rest = rest} w = record {
   found = word w;
   back = λ other us d e. begun_back d;
-  shorter = omega arith
-  }
+  shorter = omega arith;
+}
 
 -- a point and a word behind a key make a longer key
 longer : {source key : List ℕ} {ts us : List Token} {point t : Token} → IsSettingKey source key ts (point ∷ t ∷ us) → key_of source point ≡ Some k.Dot →
@@ -58,8 +58,8 @@ pub key_step : {source key : List ℕ} {tokens left : List Token} {point t : Tok
 key_step l p w = record {
   found = longer l.found p w;
   back = λ other us d e. on (l.back other us d e) p e;
-  shorter = let s = l.shorter in omega (arith, s)
-  }
+  shorter = let s = l.shorter in omega (arith, s);
+}
 
 -- where no point follows, the key ends
 stays : {source key other : List ℕ} {rest us : List Token} → ((t : Token) (ts : List Token) → rest ≡ t ∷ ts → key_of source t ≡ Some k.Dot → ⊥) →
@@ -96,7 +96,7 @@ pub go_on : {source key longer_key : List ℕ} {point t : Token} {tokens rest af
     key_of source point ≡ Some k.Dot → after ≡ t ∷ left → t.kind ≡ kind.Word → longer_key ≡ key ++ (46 ∷ text_of source t) → KeyLeft source tokens left longer_key
 go_on {source = source} {key = key} {point = point} {tokens = tokens} {left = left} l e p f w same =
     subst (λ (x : List ℕ). KeyLeft source tokens left x) (sym same)
-      (key_step (subst (λ (ts : List Token). KeyLeft source tokens (point ∷ ts) key) f (subst (λ (ts : List Token). KeyLeft source tokens ts key) e l)) p w)
+    (key_step (subst (λ (ts : List Token). KeyLeft source tokens (point ∷ ts) key) f (subst (λ (ts : List Token). KeyLeft source tokens ts key) e l)) p w)
 
 pub give_up : {source key : List ℕ} {point : Token} {tokens rest after : List Token} → KeyLeft source tokens rest key → rest ≡ point ∷ after →
     key_of source point ≡ Some k.Dot → ((t : Token) (ts : List Token) → after ≡ t ∷ ts → t.kind ≡ kind.Word → ⊥) → NoKey source tokens
@@ -161,7 +161,7 @@ pub set_read : {source key value : List ℕ} {t q first : Token} {tokens rest le
 set_read {source = source} {key = key} {value = value} {t = t} {q = q} {first = first} {rest = rest} {more = more} e d r f g h same =
     let found : IsSettingKey source key rest (q ∷ first ∷ more) = subst (λ (us : List Token). IsSettingKey source key rest us) (f ∙ ap (λ (us : List Token). q ∷ us) h) r.found in
     subst (λ (ts : List Token). IsSet source (set_form key value) ts) (sym e)
-      (subst (λ (v : List ℕ). IsSet source (set_form key v) (t ∷ rest)) (sym same) (set d found g))
+    (subst (λ (v : List ℕ). IsSet source (set_form key v) (t ∷ rest)) (sym same) (set d found g))
 
 -- the last of some tokens, by its place
 last_at : (next : Token) (rest : List Token) → slice_get (next ∷ rest) (length rest) ≡ Some (last_of next rest)
@@ -171,7 +171,7 @@ last_at next (t ∷ rest) = last_at t rest
 last_token : (next : Token) (rest : List Token) (t : Token) → Some t ≡ slice_get (next ∷ rest) (length (next ∷ rest) - 1) → last_of next rest ≡ t
 last_token next rest t e =
     let here : slice_get (next ∷ rest) (length (next ∷ rest) - 1) ≡ Some (last_of next rest) =
-        subst (λ (n : ℕ). slice_get (next ∷ rest) n ≡ Some (last_of next rest)) (omega arith) (last_at next rest) in
+    subst (λ (n : ℕ). slice_get (next ∷ rest) n ≡ Some (last_of next rest)) (omega arith) (last_at next rest) in
     cc
 
 -- the value of more than one token is the source's text

@@ -1,5 +1,5 @@
 -- How many parentheses and CASEs are open at a token.
-use Rattle.std.specs.Prelude.{ℕ, Bool, true, false, List, Option, Some, None, ◌<◌, ◌+◌, take, length, Any}
+use Rattle.std.specs.Prelude.{ℕ, Bool, true, false, List, Option, Some, ◌<◌, ◌+◌, take, length, Any}
 use Rattle.std.specs.List.{filter}
 use Rattle.aqe_lexer.specs.declared.token.Token.{Token}
 use Rattle.aqe_trees.specs.declared.terminal.Key.{Key}

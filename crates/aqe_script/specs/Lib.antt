@@ -5,6 +5,7 @@ pub mod Settings
 pub mod SettingSteps
 pub mod Statements
 pub mod Depth
-pub mod ExpressionPaths
-pub mod QueryPaths
+pub mod Nesting
+pub mod QueryNesting
+pub mod Measured
 pub mod Laws

@@ -1,5 +1,5 @@
 -- What the steps of reading a SET leave.
-use Rattle.std.specs.Prelude.{ℕ, List, [], ◌∷◌, ◌++◌, ◌≡◌, Some}
+use Rattle.std.specs.Prelude.{ℕ, List, ◌∷◌, ◌≡◌, Some}
 use Rattle.aqe_lexer.specs.declared.token.Token.{Token}
 use Rattle.aqe_trees.specs.declared.terminal.Key.TheVariants as k
 use Rattle.aqe_script.specs.declared.setting.SetFault.{SetFault}

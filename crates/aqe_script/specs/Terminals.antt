@@ -1,12 +1,11 @@
 -- The terminals of the grammar that the tokens of a source are.
-use Rattle.std.specs.Prelude.{ℕ, Bool, true, false, List, Option, Some, None, map}
+use Rattle.std.specs.Prelude.{ℕ, true, false, List, Option, Some, None, map}
 use Rattle.aqe_lexer.specs.declared.token.Token.{Token}
 use Rattle.aqe_lexer.specs.declared.token.TokenKind.{TokenKind}
 use Rattle.aqe_lexer.specs.declared.token.TokenKind.TheVariants as kind
 use Rattle.aqe_lexer.specs.Content.{text_of, content_of, unescape, undouble}
 use Rattle.aqe_lexer.specs.Numbers.{number_value, is_long}
 use Rattle.aqe_trees.specs.declared.terminal.Key.{Key}
-use Rattle.aqe_trees.specs.declared.terminal.Key.TheVariants as k
 use Rattle.aqe_trees.specs.declared.terminal.Terminal.{Terminal}
 use Rattle.aqe_trees.specs.declared.terminal.Terminal.TheVariants.{Fixed, Name, Number, Literal, Mixed}
 use Rattle.aqe_script.specs.Reserved.{word_key, symbol_key}

@@ -1,5 +1,4 @@
-use Rattle.std.proofs.Common.{refl, arith}
-use Rattle.aqe_script.proofs.DepthLemmas.{begun, counted_on, deep_here, not_deep}
+use Rattle.aqe_script.proofs.DepthLemmas.{counted_on, deep_here}
 use Rattle.aqe_script.proofs.depth.is_part_too_open.Goals as goal
 
 pub returns-then-opened-closed : goal.returns-then-opened-closed

@@ -27,6 +27,6 @@ copied-requires c =
 pub returns : goal.returns
 returns c =
     let read = set_read c.in-Some.ensures.key.0 c.in-Some.ensures.key.1 c.in_ok-key.ensures.key c.in-Some-behind.ensures.key.0 c.in-Some-behind.ensures.key.1
-          c.in-Some-next.ensures.next c.in_ok-value.ensures in
+    c.in-Some-next.ensures.next c.in_ok-value.ensures in
     subst (λ (key : List ℕ). IsSet c.args.source.now (set_form key c.in_ok-value.value) c.args.tokens.now)
-      (sym (c.in_ok-key-2.ensures ∙ c.as_str.ensures.value)) read
+    (sym (c.in_ok-key-2.ensures ∙ c.as_str.ensures.value)) read
