@@ -5,3 +5,4 @@ pub mod Rules
 pub mod TableReadings
 pub mod SentenceReadings
 pub mod Sources
+pub mod Parsed

@@ -3,6 +3,7 @@
 
 mod fault;
 mod joins;
+mod parsing;
 mod parts;
 mod queries;
 mod scripts;
@@ -13,6 +14,7 @@ mod tests;
 mod words;
 
 pub use fault::SyntaxFault;
+pub use parsing::parse;
 pub use queries::query;
 pub use scripts::read_script;
 pub use tables::create;
