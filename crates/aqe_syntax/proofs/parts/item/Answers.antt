@@ -1,0 +1,18 @@
+use Rattle.aqe_syntax.proofs.PartReadings.{all_columns_read, all_columns_of_read, one_column_read, item_refused}
+use Rattle.std.proofs.lemmas.Result.{err_from_is_err_and}
+use Rattle.aqe_syntax.proofs.parts.item.Goals as goal
+
+pub returns-in-Some : goal.returns-in-Some
+returns-in-Some c = all_columns_read c.in-Some.ensures
+
+pub returns-in-Some-name_star : goal.returns-in-Some-name_star
+returns-in-Some-name_star c = rw c.in_ok-copied.ensures (all_columns_of_read c.in-Some-name_star.ensures)
+
+pub returns-in_err-value : goal.returns-in_err-value
+returns-in_err-value c = let p = err_from_is_err_and c.from_residual-in_err-value.result c.from_residual-in_err-value.ensures.1 in rw (p.1, p.2) (λ r. item_refused c.in_default.ensures c.in_default-name_star.ensures (c.in_err-value.ensures r))
+
+pub returns-in_err-name : goal.returns-in_err-name
+returns-in_err-name c = let p = err_from_is_err_and c.from_residual-in_err-name.result c.from_residual-in_err-name.ensures.1 in rw (p.1, p.2) (λ r. absurd r)
+
+pub returns : goal.returns
+returns c = one_column_read c.in_default.ensures c.in_default-name_star.ensures c.in_ok-value.ensures c.in_ok-name.ensures

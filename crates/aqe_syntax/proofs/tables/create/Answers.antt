@@ -1,0 +1,18 @@
+use Rattle.aqe_syntax.proofs.TableReadings.{create_read, create_head_refused, create_columns_refused, create_format_refused, create_place_refused}
+use Rattle.std.proofs.lemmas.Result.{err_from_is_err_and}
+use Rattle.aqe_syntax.proofs.tables.create.Goals as goal
+
+pub returns-in_default : goal.returns-in_default
+returns-in_default c = λ r. create_head_refused c.in_default.ensures
+
+pub returns-in_err-columns : goal.returns-in_err-columns
+returns-in_err-columns c = let p = err_from_is_err_and c.from_residual.result c.from_residual.ensures.1 in rw (p.1, p.2) (λ r. create_columns_refused c.in-Some.ensures (c.in_err-columns.ensures r))
+
+pub returns-in_default-format : goal.returns-in_default-format
+returns-in_default-format c = λ r. create_format_refused c.in-Some.ensures c.in_ok-columns.ensures c.in_default-format.ensures
+
+pub returns-in_err-options : goal.returns-in_err-options
+returns-in_err-options c = let p = err_from_is_err_and c.from_residual-in_err-options.result c.from_residual-in_err-options.ensures.1 in rw (p.1, p.2) (λ r. create_place_refused c.in-Some.ensures c.in_ok-columns.ensures c.in-Some-format.ensures (c.in_err-options.ensures r))
+
+pub returns : goal.returns
+returns c = rw c.in_ok-name.ensures (create_read c.in-Some.ensures c.in_ok-columns.ensures c.in-Some-format.ensures c.in_ok-options.ensures)

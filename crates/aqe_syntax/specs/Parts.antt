@@ -1,0 +1,33 @@
+-- Parts of rules that the grammar does not name.
+use Rattle.std.specs.Prelude.{ℕ, List, ◌∷◌, Option}
+use Rattle.aqe_trees.specs.declared.terminal.Key.TheVariants as k
+use Rattle.aqe_trees.specs.declared.terminal.Terminal.{Terminal}
+use Rattle.aqe_trees.specs.declared.terminal.Terminal.TheVariants.{Fixed}
+use Rattle.aqe_trees.specs.declared.query.QueryTree.{QueryTree}
+use Rattle.aqe_trees.specs.declared.expression.OrTree.{OrTree}
+use Rattle.aqe_trees.specs.declared.query.UnionTree.{UnionTree}
+use Rattle.aqe_trees.specs.declared.query.SortTree.{SortTree}
+use Rattle.aqe_trees.specs.Shapes.{query_tree}
+use Rattle.aqe_trees.specs.Lists.{IsClause, IsBound}
+use Rattle.aqe_trees.specs.Queries.{IsQuery, IsOrder, IsGroup}
+
+-- query ): a query in parentheses, behind the first of them
+abbrev pub IsNested : QueryTree → List Terminal → List Terminal → Type 0
+IsNested query ts us = IsQuery query ts (Fixed k.Close ∷ us)
+
+-- [ORDER BY sort {, sort}] [LIMIT number] [OFFSET number]: the query that this makes of its body
+pub data IsTail (body : UnionTree) : QueryTree → List Terminal → List Terminal → Type 0 where
+  tail_of : {order : List SortTree} {limit offset : Option ℕ} {ts vs ws us : List Terminal} →
+      IsOrder order ts vs → IsBound k.Limit limit vs ws → IsBound k.Offset offset ws us →
+      IsTail body (query_tree body order limit offset) ts us
+
+-- [WHERE or] [GROUP BY or {, or}] [HAVING or]
+pub data IsConditions : (Option OrTree × List OrTree × Option OrTree) → List Terminal → List Terminal → Type 0 where
+  conditions_of : {filter having : Option OrTree} {group : List OrTree} {ts vs ws us : List Terminal} →
+      IsClause k.Where filter ts vs → IsGroup group vs ws → IsClause k.Having having ws us →
+      IsConditions (filter, group, having) ts us
+
+-- [OUTER] JOIN
+pub data IsOuterJoin : List Terminal → List Terminal → Type 0 where
+  outer_unsaid : {us : List Terminal} → IsOuterJoin (Fixed k.Join ∷ us) us
+  outer_said : {us : List Terminal} → IsOuterJoin (Fixed k.Outer ∷ Fixed k.Join ∷ us) us

@@ -1,0 +1,250 @@
+//! Sources and what the grammar makes of them.
+
+ghost use Rattle.std.specs.Prelude.{◌≤◌, length};
+
+use crate::read_script;
+use aqe_lexer::tokens;
+use aqe_trees::{CoreTree, JoinedTree, QueryTree, Script, SelectTree, Stmt};
+use std::alloc::{AllocError, Global};
+
+/// A joined item of FROM: its kinds of join, each with whether it has a condition.
+fn joined_text(alloc: Global, joined: &JoinedTree) -> Result<String, AllocError> {
+    let mut text = String::new(alloc);
+    for step in joined.rest.as_slice() {
+        let on = matches!(step.on, Some(_));
+        let one = format!(in alloc; " {:?} {on}", step.kind)?;
+        text.push_str(one.as_str())?;
+    }
+    Ok(text)
+}
+
+/// The parts of a SELECT, most by their number.
+fn select_text(alloc: Global, select: &SelectTree) -> Result<String, AllocError> {
+    let mut joins = String::new(alloc);
+    for joined in select.from.as_slice() {
+        let one = joined_text(alloc, joined)?;
+        joins.push_str(one.as_str())?;
+    }
+    let filter = matches!(select.filter, Some(_));
+    let having = matches!(select.having, Some(_));
+    format!(in alloc;
+        "select {} items {} from {}{joins} where {filter} group {} having {having}",
+        select.distinct,
+        select.items.len(),
+        select.from.len(),
+        select.group.len()
+    )
+}
+
+/// A SELECT, or a pair of parentheses.
+fn core_text(alloc: Global, core: &CoreTree) -> Result<String, AllocError> {
+    match core {
+        CoreTree::Paren(_) => String::from_str(alloc, "paren"),
+        CoreTree::Select(select) => select_text(alloc, select),
+    }
+}
+
+/// A query: its cores with whether equal rows count once, its sorts, its bounds.
+fn query_text(alloc: Global, query: &QueryTree) -> Result<String, AllocError> {
+    let mut text = core_text(alloc, &query.body.first)?;
+    for (once, core) in query.body.rest.as_slice() {
+        let next = core_text(alloc, core)?;
+        let one = format!(in alloc; " union {once} {next}")?;
+        text.push_str(one.as_str())?;
+    }
+    for sort in query.order.as_slice() {
+        let one = format!(in alloc; " sort {} {}", sort.descending, sort.nulls_last)?;
+        text.push_str(one.as_str())?;
+    }
+    if let Some(limit) = query.limit {
+        let one = format!(in alloc; " limit {limit}")?;
+        text.push_str(one.as_str())?;
+    }
+    if let Some(offset) = query.offset {
+        let one = format!(in alloc; " offset {offset}")?;
+        text.push_str(one.as_str())?;
+    }
+    Ok(text)
+}
+
+/// A statement.
+fn statement_text(alloc: Global, one: &Stmt) -> Result<String, AllocError> {
+    match one {
+        Stmt::Query(query) => query_text(alloc, query),
+        Stmt::Set(form) => format!(in alloc;
+            "set {} to {}",
+            form.key.as_str(),
+            form.value.as_str()
+        ),
+        Stmt::CreateTable(form) => {
+            let mut text = format!(in alloc;
+                "table {} at {}",
+                form.name.as_str(),
+                form.location.as_str()
+            )?;
+            for (name, kind) in form.columns.slice() {
+                let one = format!(in alloc; " {} {kind:?}", name.as_str())?;
+                text.push_str(one.as_str())?;
+            }
+            for (key, value) in form.options.slice() {
+                let one = format!(in alloc; " {}={}", key.as_str(), value.as_str())?;
+                text.push_str(one.as_str())?;
+            }
+            Ok(text)
+        }
+    }
+}
+
+/// The statements of a script, each with a bar behind it.
+fn script_text(alloc: Global, script: &Script) -> Result<String, AllocError> {
+    let mut text = String::new(alloc);
+    for one in script.slice() {
+        let shown = statement_text(alloc, one)?;
+        text.push_str(shown.as_str())?;
+        text.push('|')?;
+    }
+    Ok(text)
+}
+
+/// What the source is read as.
+#[tactic(auto, using(aqe_lexer::proofs::Stands::list_in_order))]
+fn shown(alloc: Global, source: &str) -> Result<String, AllocError> {
+    if source.len() > 1000 {
+        return String::from_str(alloc, "too long for a test");
+    }
+    match tokens(alloc, source.as_bytes()) {
+        Ok(tokens) => match read_script(alloc, source, tokens.slice()) {
+            Ok(script) => script_text(alloc, &script),
+            Err(fault) => format!(in alloc; "{fault:?}"),
+        },
+        Err(fault) => format!(in alloc; "{fault:?}"),
+    }
+}
+
+#[test]
+fn reads_queries(rt: HostRuntime) -> Result<(), AllocError> {
+    let alloc = rt.alloc();
+    let plain = "select false items 1 from 0 where false group 0 having false|";
+    let cases: [(&str, &str); 16] = [
+        ("", ""),
+        (";; ;", ""),
+        ("SELECT 1", plain),
+        ("select all 1;", plain),
+        (
+            "SELECT DISTINCT *, t.*, a AS b, c d FROM t",
+            "select true items 4 from 1 where false group 0 having false|",
+        ),
+        (
+            "SELECT 1 FROM t WHERE a GROUP BY b, c HAVING d",
+            "select false items 1 from 1 where true group 2 having true|",
+        ),
+        (
+            "SELECT 1 FROM t u, (SELECT 1) AS v, w",
+            "select false items 1 from 3 where false group 0 having false|",
+        ),
+        (
+            "SELECT 1 FROM a JOIN b ON c INNER JOIN d CROSS JOIN e ON f",
+            "select false items 1 from 1 Inner true Inner false Cross true where false group 0 having false|",
+        ),
+        (
+            "SELECT 1 FROM a LEFT JOIN b LEFT OUTER JOIN c RIGHT JOIN d RIGHT OUTER JOIN e FULL JOIN f FULL OUTER JOIN g",
+            "select false items 1 from 1 LeftOuter false LeftOuter false RightOuter false RightOuter false FullOuter false FullOuter false where false group 0 having false|",
+        ),
+        (
+            "SELECT 1 FROM a LEFT SEMI JOIN b SEMI JOIN c LEFT ANTI JOIN d ANTI JOIN e",
+            "select false items 1 from 1 LeftSemi false LeftSemi false LeftAnti false LeftAnti false where false group 0 having false|",
+        ),
+        (
+            "SELECT 1 FROM a `LEFT` JOIN b",
+            "select false items 1 from 1 Inner false where false group 0 having false|",
+        ),
+        (
+            "(SELECT 1) UNION (SELECT 2) UNION ALL (SELECT 3) UNION DISTINCT (SELECT 4)",
+            "paren union true paren union false paren union true paren|",
+        ),
+        (
+            "(SELECT 1) ORDER BY a, b ASC, c DESC, d NULLS LAST, e DESC NULLS FIRST",
+            "paren sort false false sort false false sort true true sort false true sort true false|",
+        ),
+        ("(SELECT 1) LIMIT 5L", "paren limit 5|"),
+        (
+            "(SELECT 1) LIMIT 9223372036854775807 OFFSET 3",
+            "paren limit 9223372036854775807 offset 3|",
+        ),
+        ("(SELECT 1) OFFSET 0", "paren offset 0|"),
+    ];
+    for (source, wanted) in cases {
+        let text = shown(alloc, source)?;
+        assert_eq!(rt; text.as_str(), wanted, "{source}");
+    }
+    Ok(())
+}
+
+#[test]
+fn reads_tables_and_settings(rt: HostRuntime) -> Result<(), AllocError> {
+    let alloc = rt.alloc();
+    let cases: [(&str, &str); 8] = [
+        (
+            "CREATE TABLE t (a INT, b integer, c BIGINT, d long, e STRING, `f` boolean) USING csv LOCATION 'p'",
+            "table t at p a Int b Int c BigInt d BigInt e Text f Boolean|",
+        ),
+        (
+            "create table `int` (a int) using CSV options (header true, 'sep' = ';', x FALSE) location \"p\"",
+            "table int at p a Int header=true sep=; x=false|",
+        ),
+        (
+            "CREATE TABLE t (a INT) USING csv LOCATION 'p' OPTIONS (header = 'yes')",
+            "table t at p a Int header=yes|",
+        ),
+        ("SET a.b.c = 64MB", "set a.b.c to 64MB|"),
+        ("SET select.x = 'it\\'s'", "set select.x to it's|"),
+        ("SET a = 'x' 1", "set a to 'x' 1|"),
+        (
+            "SET a = 1 ; SET b = 9223372036854775808",
+            "set a to 1|set b to 9223372036854775808|",
+        ),
+        (";SET a=b--;\n;;", "set a to b|"),
+    ];
+    for (source, wanted) in cases {
+        let text = shown(alloc, source)?;
+        assert_eq!(rt; text.as_str(), wanted, "{source}");
+    }
+    Ok(())
+}
+
+#[test]
+fn refuses_what_is_no_sentence(rt: HostRuntime) -> Result<(), AllocError> {
+    let alloc = rt.alloc();
+    let cases: [(&str, u64); 18] = [
+        ("SELECT", 6),
+        ("SELECT (1", 9),
+        ("SELECT 1 LIMIT -1", 9),
+        ("SELECT 1 LIMIT 9223372036854775808", 9),
+        ("SELECT 1 OFFSET 1 LIMIT 2", 18),
+        ("SELECT a b c", 11),
+        ("SELECT 1 FROM", 13),
+        ("SELECT 1 FROM a LEFT JOIN", 25),
+        ("SELECT 1 FROM a OUTER JOIN b", 16),
+        ("SELECT 1 FROM a JOIN b ON", 25),
+        ("SELECT 1 WHERE", 14),
+        ("SELECT 1 UNION SELECT", 21),
+        ("SELECT 1; CREATE TABLE t () USING csv LOCATION 'p'", 26),
+        ("CREATE TABLE t (a `INT`) USING csv LOCATION 'p'", 18),
+        ("CREATE TABLE t (a INT) USING csv", 32),
+        (
+            "CREATE TABLE t (a INT) USING csv LOCATION 'p' LOCATION 'q'",
+            46,
+        ),
+        (
+            "CREATE TABLE t (a INT) USING csv OPTIONS (a TRUE) OPTIONS (b TRUE) LOCATION 'p'",
+            48,
+        ),
+        ("SET a.1 = 2", 6),
+    ];
+    for (source, at) in cases {
+        let text = shown(alloc, source)?;
+        let wanted = format!(in alloc; "NotASentence {{ at: {at} }}")?;
+        assert_eq!(rt; text.as_str(), wanted.as_str(), "{source}");
+    }
+    Ok(())
+}
