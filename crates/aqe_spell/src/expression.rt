@@ -12,11 +12,11 @@ use crate::leaf::{
     table_column, type_word,
 };
 use crate::operator::{compare_key, product_key, sign_key};
-use crate::parts::{
+use crate::word::{fixed, name};
+use aqe_script::parts::{
     and_parts, arm_parts, comparison_parts, not_parts, or_parts, predicate_parts, product_parts,
     sign_parts, sum_parts,
 };
-use crate::word::{fixed, name};
 use aqe_trees::{
     AndTree, Arm, ComparisonTree, Key, NotTree, OrTree, PredicateTree, PrimaryTree, ProductTree,
     SignTree, SumTree, Test,

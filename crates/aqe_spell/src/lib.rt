@@ -4,7 +4,6 @@
 mod expression;
 mod leaf;
 mod operator;
-mod parts;
 mod query;
 mod query_leaf;
 mod statement;

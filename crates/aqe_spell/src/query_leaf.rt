@@ -9,9 +9,9 @@ ghost use Rattle.aqe_trees.specs.Queries.{IsItem, IsSort, IsOrder, IsGroup, IsKi
 ghost use Rattle.aqe_spell.specs.Written.{Adds, Sound, Spelled, all_before, distinct_before, way_before, nulls_before};
 
 use crate::expression::or;
-use crate::parts::sort_parts;
 use crate::word::{fixed, name, number, word};
 use aqe_base::JoinKind;
+use aqe_script::parts::sort_parts;
 use aqe_trees::{ItemTree, Key, OrTree, SortTree};
 use aqe_values::Text;
 use std::alloc::AllocError;
