@@ -2,7 +2,7 @@
 
 ghost use Rattle.std.specs.Prelude.{◌≤◌, length};
 
-use crate::read_script;
+use crate::parse;
 use aqe_lexer::tokens;
 use aqe_trees::{CoreTree, JoinedTree, QueryTree, Script, SelectTree, Stmt};
 use std::alloc::{AllocError, Global};
@@ -107,13 +107,12 @@ fn script_text(alloc: Global, script: &Script) -> Result<String, AllocError> {
 }
 
 /// What the source is read as.
-#[tactic(auto, using(aqe_lexer::proofs::Stands::list_in_order))]
 fn shown(alloc: Global, source: &str) -> Result<String, AllocError> {
     if source.len() > 1000 {
         return String::from_str(alloc, "too long for a test");
     }
     match tokens(alloc, source.as_bytes()) {
-        Ok(tokens) => match read_script(alloc, source, tokens.slice()) {
+        Ok(tokens) => match parse(alloc, source.as_bytes(), &tokens) {
             Ok(script) => script_text(alloc, &script),
             Err(fault) => format!(in alloc; "{fault:?}"),
         },
@@ -245,6 +244,32 @@ fn refuses_what_is_no_sentence(rt: HostRuntime) -> Result<(), AllocError> {
         let text = shown(alloc, source)?;
         let wanted = format!(in alloc; "NotASentence {{ at: {at} }}")?;
         assert_eq!(rt; text.as_str(), wanted.as_str(), "{source}");
+    }
+    Ok(())
+}
+
+#[test]
+fn refuses_what_is_too_deep(rt: HostRuntime) -> Result<(), AllocError> {
+    let alloc = rt.alloc();
+    for (terms, deep) in [(127u32, false), (128u32, true)] {
+        let mut source = String::from_str(alloc, "SELECT 1")?;
+        for _ in 1..terms {
+            source.push_str("+1")?;
+        }
+        let text = shown(alloc, source.as_str())?;
+        assert_eq!(rt; text.as_str() == "TooDeep", deep, "{terms} terms");
+    }
+    for (pairs, deep) in [(126u32, false), (127u32, true)] {
+        let mut source = String::from_str(alloc, "SELECT ")?;
+        for _ in 0..pairs {
+            source.push_str("(")?;
+        }
+        source.push_str("1")?;
+        for _ in 0..pairs {
+            source.push_str(")")?;
+        }
+        let text = shown(alloc, source.as_str())?;
+        assert_eq!(rt; text.as_str() == "TooDeep", deep, "{pairs} pairs");
     }
     Ok(())
 }
