@@ -10,6 +10,8 @@ pub mod parts;
 mod query_nesting;
 mod setting;
 mod terminal;
+#[cfg(test)]
+mod tests;
 mod token_text;
 
 pub use depth::is_too_open;

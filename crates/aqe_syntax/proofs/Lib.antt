@@ -4,5 +4,4 @@ pub mod JoinKinds
 pub mod Rules
 pub mod TableReadings
 pub mod SentenceReadings
-pub mod Sources
 pub mod Parsed

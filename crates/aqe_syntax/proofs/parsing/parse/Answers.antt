@@ -1,7 +1,7 @@
 use Rattle.std.proofs.Common.{inl, inr, sym}
 use Rattle.std.proofs.lemmas.Result.{err_from_is_err_and}
 use Rattle.aqe_syntax.proofs.Parsed.{read_cause, same_open, same_script, same_fault}
-use Rattle.aqe_syntax.proofs.Sources.{stand_in, in_order}
+use Rattle.aqe_script.proofs.Sources.{stand_in, in_order}
 use Rattle.aqe_syntax.proofs.parsing.parse.Goals as goal
 
 pub is_too_open-requires : goal.is_too_open-requires
