@@ -3,8 +3,7 @@ use Rattle.std.specs.Prelude.{Bool, true, false, Option, Some, None, option_and_
 use Rattle.aqe_values.specs.declared.sql_type.SqlType.{SqlType}
 use Rattle.aqe_values.specs.declared.sql_type.SqlType.TheVariants as sql
 
--- The common type of two: of INT and BIGINT it is BIGINT; of NULL and a type that type; of two equal types that type;
--- other types have none.
+-- Two types meet in one: a type meets itself and NULL in itself, INT and BIGINT meet in BIGINT, and others do not meet.
 abbrev pub common : SqlType → SqlType → Option SqlType
 common sql.NullType b = Some b
 common a sql.NullType = Some a

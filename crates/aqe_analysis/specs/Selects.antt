@@ -78,7 +78,8 @@ abbrev pub spread_value : Place → Spread → Outcome Typed
 spread_value place (column c) = Ok c.value
 spread_value place (expression value alias) = (read value place).value
 
--- An output column is named by its alias, else by the column that it is, else `_c` and its place from 0.
+-- The name of an output column: its alias where it has one; the name of the column where it is no more than one; and
+-- `_c` with its place, counted from 0, where it is neither.
 abbrev pub name_of_column : List Named → Expr → List ℕ
 name_of_column [] expr = []
 name_of_column (c ∷ cs) (Column zero) = c.name

@@ -1,4 +1,4 @@
--- The nesting of an expression: the greatest number of nodes on a path from its top.
+-- The nesting of an expression: how many nodes lie above each other where it is deepest, that node counted too.
 --
 -- Each operator, test, NOT, sign, pair of parentheses, call, CAST and CASE counts one, and so does a literal and a name.
 -- Operators of one level group to the left.
