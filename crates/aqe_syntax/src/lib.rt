@@ -1,4 +1,4 @@
-//! The reader of statements: from terminals to the tree that they spell, proved against the grammar in both directions.
+//! The reader of scripts: from tokens to the trees that they spell, proved against the grammar in both directions; and back to a text.
 #![tactic(auto)]
 
 mod fault;
@@ -13,6 +13,7 @@ mod tables;
 mod tests;
 mod words;
 
+pub use aqe_spell::spell;
 pub use fault::SyntaxFault;
 pub use parsing::parse;
 pub use queries::query;

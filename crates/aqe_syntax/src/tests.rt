@@ -2,7 +2,7 @@
 
 ghost use Rattle.std.specs.Prelude.{◌≤◌, length};
 
-use crate::parse;
+use crate::{parse, spell};
 use aqe_lexer::tokens;
 use aqe_trees::{CoreTree, JoinedTree, QueryTree, Script, SelectTree, Stmt};
 use std::alloc::{AllocError, Global};
@@ -271,5 +271,74 @@ fn refuses_what_is_too_deep(rt: HostRuntime) -> Result<(), AllocError> {
         let text = shown(alloc, source.as_str())?;
         assert_eq!(rt; text.as_str() == "TooDeep", deep, "{pairs} pairs");
     }
+    Ok(())
+}
+
+/// How the source is spelled.
+fn spelled(alloc: Global, source: &str) -> Result<String, AllocError> {
+    if source.len() > 1000 {
+        return String::from_str(alloc, "too long for a test");
+    }
+    let Ok(tokens) = tokens(alloc, source.as_bytes()) else {
+        return String::from_str(alloc, "no tokens");
+    };
+    let Ok(script) = parse(alloc, source.as_bytes(), &tokens) else {
+        return String::from_str(alloc, "no script");
+    };
+    match spell(alloc, &script) {
+        Ok(text) => lossy(alloc, text.slice()),
+        Err(_) => String::from_str(alloc, "no memory"),
+    }
+}
+
+fn lossy(alloc: Global, bytes: &[u8]) -> Result<String, AllocError> {
+    match std::str::from_utf8(bytes) {
+        Ok(text) => String::from_str(alloc, text),
+        Err(_) => String::from_str(alloc, "no text"),
+    }
+}
+
+#[test]
+fn spells_what_it_reads(rt: HostRuntime) -> Result<(), AllocError> {
+    let alloc = rt.alloc();
+    let cases: [(&str, &str); 4] = [
+        (
+            "SELECT a FROM (SELECT a FROM s ORDER BY a) WHERE a > 1 LIMIT 2",
+            "SELECT a FROM ( SELECT a FROM s ORDER BY a ) WHERE a > 1 LIMIT 2 ;\n",
+        ),
+        ("/* /* */ */ select a - -1 -- end\n;", "SELECT a - - 1 ;\n"),
+        (
+            "SELECT not NOT a, x not in (1), CASE a WHEN 1 THEN 2 END",
+            "SELECT NOT NOT a , x NOT IN ( 1 ) , CASE a WHEN 1 THEN 2 END ;\n",
+        ),
+        (
+            "SELECT a BETWEEN b AND c AND d, count(*), 'é'",
+            "SELECT a BETWEEN b AND c AND d , count ( * ) , 'é' ;\n",
+        ),
+    ];
+    for (source, wanted) in cases {
+        let text = spelled(alloc, source)?;
+        assert_eq!(rt; text.as_str(), wanted, "{source}");
+        let again = spelled(alloc, wanted)?;
+        assert_eq!(rt; again.as_str(), wanted, "{source}");
+    }
+    Ok(())
+}
+
+/// SELECT and so many parentheses that open.
+fn opened(alloc: Global, count: u32) -> Result<String, AllocError> {
+    let mut source = String::from_str(alloc, "SELECT ")?;
+    for _ in 0..count {
+        source.push('(')?;
+    }
+    shown(alloc, source.as_str())
+}
+
+#[test]
+fn counts_what_is_open(rt: HostRuntime) -> Result<(), AllocError> {
+    let alloc = rt.alloc();
+    assert_eq!(rt; opened(alloc, 128)?.as_str(), "NotASentence { at: 135 }");
+    assert_eq!(rt; opened(alloc, 129)?.as_str(), "TooDeep");
+    assert_eq!(rt; shown(alloc, "SELEC 1")?.as_str(), "NotASentence { at: 0 }");
     Ok(())
 }
