@@ -1,7 +1,7 @@
 #!/usr/bin/env bash
 # Times the lexer and the reader over a script of many statements and over one statement with a long list, each also at
 # half the size. Usage: bench/reader.sh
-# Builds bench/reader/main.rt as a program of its own in a copy of this repository. Prints wall seconds and peak memory.
+# Builds bench/reader/main.txt as a program of its own in a copy of this repository. Prints wall seconds and peak memory.
 # Needs python3 and the Rattle kit.
 set -eu
 top=$(cd "$(dirname "$0")/.." && pwd)
@@ -10,7 +10,7 @@ if [ ! -x "$room/repository/crates/reader_bench/out/reader_bench" ]; then
     mkdir -p "$room/repository"
     cp -r "$top/crates" "$top/crates.txt" "$top/HANDLES" "$room/repository/"
     mkdir -p "$room/repository/crates/reader_bench/src"
-    cp "$top/bench/reader/main.rt" "$room/repository/crates/reader_bench/src/main.rt"
+    cp "$top/bench/reader/main.txt" "$room/repository/crates/reader_bench/src/main.rt"
     echo "reader_bench: aqe_lexer aqe_store aqe_syntax aqe_base" >>"$room/repository/crates.txt"
     (cd "$room/repository/crates/reader_bench" && rt run -- nothing >build.txt 2>&1) || true
 fi
