@@ -1,17 +1,10 @@
-//! Analysis of queries: names, types and grouping, and the one plan of a query.
+//! Analysis of queries: the one plan of a query over a catalog, or the first check that fails.
 #![tactic(auto)]
 
-mod cases;
-mod fault;
-mod laws;
-mod limits;
-mod names;
-mod operations;
-#[cfg(test)]
-mod tests;
-mod typed;
+mod analysis;
 
-pub use fault::AnalysisFault;
-pub use laws::{
-    one_plan, plan_or_check, plans_are_bounded, plans_are_closed, plans_are_well_formed,
+pub use analysis::analyse;
+pub use aqe_rules::{
+    AnalysisFault, one_plan, plan_or_check, plans_are_bounded, plans_are_closed,
+    plans_are_well_formed,
 };

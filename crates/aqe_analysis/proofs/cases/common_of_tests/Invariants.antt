@@ -1,6 +1,0 @@
-use Rattle.std.proofs.Common.{◌≡◌, take, fold, Some}
-use Rattle.aqe_analysis.specs.Kinds.{common_with}
-use Rattle.aqe_analysis.proofs.cases.common_of_tests.Given as goal
-
-abbrev pub invariant-arms : goal.invariant-arms
-invariant-arms l = l.so_far ≡ fold (λ so_far arm. common_with so_far arm.0.kind) (Some l.fn.kind) (take l.arm-index l.arms)

@@ -1,0 +1,1 @@
+//! Queries that are carried out so far.

@@ -1,0 +1,6 @@
+//! Expressions read at their place: from a tree to a typed expression over the columns of a row.
+#![tactic(auto)]
+
+mod value;
+
+pub use value::{is_column, value_over, value_with_aliases};
