@@ -17,5 +17,6 @@ pub mod Comparing
 pub mod KnownAnswers
 pub mod OperatorSteps
 pub mod Levels
+pub mod QueryLevels
 pub mod CaseSteps
 pub mod FoundSteps
