@@ -1,6 +1,4 @@
 //! Which scripts the program carries out so far. It goes once all forms of a query are carried out.
 #![tactic(auto)]
 
-mod query;
-
-pub use query::is_query_built;
+mod calls;

@@ -1,1 +1,0 @@
-//! Queries that are carried out so far.
