@@ -5,6 +5,11 @@ use Rattle.std.specs.List.{list_all}
 use Rattle.std.specs.Option.{is_some, option_map_or}
 use Rattle.aqe_trees.specs.declared.expression.OrTree.{OrTree}
 use Rattle.aqe_trees.specs.declared.query.QueryTree.{QueryTree}
+use Rattle.aqe_trees.specs.declared.query.UnionTree.{UnionTree}
+use Rattle.aqe_trees.specs.declared.query.CoreTree.{CoreTree}
+use Rattle.aqe_trees.specs.declared.query.SelectTree.{SelectTree}
+use Rattle.aqe_trees.specs.declared.query.JoinedTree.{JoinedTree}
+use Rattle.aqe_trees.specs.declared.query.SourceTree.{SourceTree}
 use Rattle.aqe_trees.specs.declared.query.ItemTree.{ItemTree}
 use Rattle.aqe_trees.specs.declared.query.ItemTree.TheVariants as item
 use Rattle.aqe_trees.specs.declared.statement.Stmt.{Stmt}
@@ -12,7 +17,7 @@ use Rattle.aqe_trees.specs.declared.statement.Stmt.TheVariants as statement
 use Rattle.aqe_rules.specs.Expressions.{has_aggregate}
 use Rattle.aqe_rules.specs.Selects.{is_empty}
 use Rattle.aqe_rules.specs.QueryForms.{QueryForms}
-use Rattle.aqe_rules.specs.QueryTrees.{made_of_query}
+use Rattle.aqe_rules.specs.QueryTrees.{made_of_query, made_of_union, made_of_core, made_of_select, made_of_joined, made_of_source}
 
 -- an item of a select list calls no aggregate function
 abbrev pub is_item_built : ItemTree → Bool
@@ -44,6 +49,22 @@ built = record {
 
 abbrev pub is_query_built : QueryTree → Bool
 is_query_built = made_of_query built
+
+-- the parts of a query
+abbrev pub is_union_built : UnionTree → Bool
+is_union_built = made_of_union built
+
+abbrev pub is_core_built : CoreTree → Bool
+is_core_built = made_of_core built
+
+abbrev pub is_select_built : SelectTree → Bool
+is_select_built = made_of_select built
+
+abbrev pub is_joined_built : JoinedTree → Bool
+is_joined_built = made_of_joined built
+
+abbrev pub is_source_built : SourceTree → Bool
+is_source_built = made_of_source built
 
 abbrev pub is_statement_built : Stmt → Bool
 is_statement_built (statement.CreateTable form) = is_empty form.options

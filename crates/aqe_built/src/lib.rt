@@ -2,3 +2,10 @@
 #![tactic(auto)]
 
 mod calls;
+mod parts;
+mod query;
+mod script;
+
+pub use parts::body;
+pub use query::is_query_built;
+pub use script::is_script_built;
