@@ -88,21 +88,16 @@ pub core_select : (select : SelectTree) → is_core_built (core.Select select) �
 core_select select h = sym (of_core_select built select) ∙ h
 
 -- FROM has one source at most
-pub data FromParts : List JoinedTree → Type 0 where
-  nothing : FromParts []
-  one : (joined : JoinedTree) → is_joined_built joined ≡ true → FromParts (joined ∷ [])
-
-from_parts : (from : List JoinedTree) → is_from_built (map is_joined_built from) ≡ true → FromParts from
-from_parts [] h = nothing
-from_parts (joined ∷ []) h = one joined h
-from_parts (joined ∷ other ∷ more) h = cc
+pub from_parts : (first : JoinedTree) (rest : List JoinedTree) → is_from_built (map is_joined_built (first ∷ rest)) ≡ true → (is_joined_built first ≡ true) × (rest ≡ [])
+from_parts first [] h = (h, refl)
+from_parts first (other ∷ more) h = cc
 
 -- a SELECT has no DISTINCT, GROUP BY, HAVING and aggregate call
 pub record SelectParts (distinct : Bool) (items : List ItemTree) (from : List JoinedTree) (filter : Option OrTree) (group : List OrTree) (having : Option OrTree) : Type 0 where
   pub not_distinct : distinct ≡ false
   pub items_built : list_all is_item_built items ≡ true
-  pub from_built : FromParts from
-  pub filter_built : option_map_or has_aggregate filter false ≡ false
+  pub from_built : is_from_built (map is_joined_built from) ≡ true
+  pub filter_built : is_filter_built filter ≡ true
   pub no_group : group ≡ []
   pub no_having : having ≡ None
 
@@ -123,8 +118,8 @@ select_parts distinct items from filter group having h =
     record {
       not_distinct = untrue distinct (left a b two);
       items_built = right a b two;
-      from_built = from_parts from (right (a && b) d three);
-      filter_built = untrue (option_map_or has_aggregate filter false) (right (a && b && d) e four);
+      from_built = right (a && b) d three;
+      filter_built = right (a && b && d) e four;
       no_group = empty group (right (a && b && d && e) f five);
       no_having = missing having (right (a && b && d && e && f) g six);
     }

@@ -6,6 +6,6 @@ mod parts;
 mod query;
 mod script;
 
-pub use parts::body;
+pub use parts::{body, clauses, only_core, only_joined, only_source};
 pub use query::is_query_built;
 pub use script::is_script_built;
