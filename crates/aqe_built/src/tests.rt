@@ -8,9 +8,9 @@ use crate::parts::{body, clauses, only_core, only_joined, only_source};
 use crate::{is_query_built, is_script_built};
 use aqe_base::{Listing, Memory};
 use aqe_trees::{
-    AndTree, Arm, ComparisonTree, CoreTree, ItemTree, JoinedTree, NotTree, OrTree, PredicateTree,
-    PrimaryTree, ProductTree, QueryTree, Script, SelectTree, SetForm, SignTree, SourceTree, Stmt,
-    SumTree, TableForm, Test, UnionTree,
+    AndTree, Arm, ComparisonTree, CoreTree, ItemTree, JoinedTree, NotTree, OptionForms, OrTree,
+    PredicateTree, PrimaryTree, ProductTree, QueryTree, Script, SelectTree, SetForm, SignTree,
+    SourceTree, Stmt, SumTree, TableForm, Test, UnionTree,
 };
 use aqe_values::Text;
 use sqlite_items::Items;
@@ -55,7 +55,6 @@ fn case(alloc: Global, value: OrTree) -> Result<OrTree, Memory> {
 fn names_of_aggregates_have_no_case(rt: HostRuntime) -> Result<(), Memory> {
     let alloc = rt.alloc();
     assert!(rt; has_aggregate(&call(alloc, "SuM")?));
-    assert!(rt; has_aggregate(&call(alloc, "max")?));
     assert!(rt; !has_aggregate(&call(alloc, "length")?));
     Ok(())
 }
@@ -63,10 +62,8 @@ fn names_of_aggregates_have_no_case(rt: HostRuntime) -> Result<(), Memory> {
 #[test]
 fn calls_are_seen_within_case(rt: HostRuntime) -> Result<(), Memory> {
     let alloc = rt.alloc();
-    let counted = alone(alloc, PrimaryTree::CountAll);
-    assert!(rt; has_aggregate(&case(alloc, counted)?));
-    let null = alone(alloc, PrimaryTree::Null);
-    assert!(rt; !has_aggregate(&case(alloc, null)?));
+    assert!(rt; has_aggregate(&case(alloc, alone(alloc, PrimaryTree::CountAll))?));
+    assert!(rt; !has_aggregate(&case(alloc, alone(alloc, PrimaryTree::Null))?));
     Ok(())
 }
 
@@ -77,115 +74,119 @@ fn table(alloc: Global) -> Result<JoinedTree, Memory> {
     Ok(JoinedTree::new(source, Items::new(alloc)))
 }
 
-/// `SELECT [DISTINCT] value FROM ..`
+/// `t`, so many times
+fn tables(alloc: Global, count: u8) -> Result<Items<JoinedTree>, Memory> {
+    let mut from = Items::new(alloc);
+    for _ in 0..count {
+        from.push(table(alloc)?)?;
+    }
+    Ok(from)
+}
+
+/// `SELECT [DISTINCT] item FROM ..`
 fn select(
     alloc: Global,
     distinct: bool,
-    value: OrTree,
+    item: ItemTree,
     from: Items<JoinedTree>,
 ) -> Result<UnionTree, Memory> {
     let mut items = Items::new(alloc);
-    items.push(ItemTree::One { value, alias: None })?;
+    items.push(item)?;
     let parts = SelectTree::new(distinct, items, from, None, Items::new(alloc), None);
     Ok(UnionTree::new(CoreTree::select(parts), Items::new(alloc)))
 }
 
-/// `SELECT [DISTINCT] NULL FROM t [LIMIT limit]`
-fn query(alloc: Global, distinct: bool, limit: Option<u64>) -> Result<QueryTree, Memory> {
-    let mut from = Items::new(alloc);
-    from.push(table(alloc)?)?;
-    let body = select(alloc, distinct, alone(alloc, PrimaryTree::Null), from)?;
+/// `SELECT [DISTINCT] * FROM t, .., t [LIMIT limit]`
+fn star(
+    alloc: Global,
+    distinct: bool,
+    sources: u8,
+    limit: Option<u64>,
+) -> Result<QueryTree, Memory> {
+    let from = tables(alloc, sources)?;
+    let body = select(alloc, distinct, ItemTree::All, from)?;
     Ok(QueryTree::new(body, Items::new(alloc), limit, None))
 }
 
 #[test]
 fn distinct_and_limit_are_not_built(rt: HostRuntime) -> Result<(), Memory> {
     let alloc = rt.alloc();
-    assert!(rt; is_query_built(&query(alloc, false, None)?));
-    assert!(rt; !is_query_built(&query(alloc, true, None)?));
-    assert!(rt; !is_query_built(&query(alloc, false, Some(3))?));
+    assert!(rt; !is_query_built(&star(alloc, true, 1, None)?));
+    assert!(rt; !is_query_built(&star(alloc, false, 1, Some(3))?));
     Ok(())
 }
 
 #[test]
-fn a_second_source_is_not_built(rt: HostRuntime) -> Result<(), Memory> {
+fn one_source_is_built(rt: HostRuntime) -> Result<(), Memory> {
     let alloc = rt.alloc();
-    let mut from = Items::new(alloc);
-    from.push(table(alloc)?)?;
-    from.push(table(alloc)?)?;
-    let body = select(alloc, false, alone(alloc, PrimaryTree::Null), from)?;
-    let query = QueryTree::new(body, Items::new(alloc), None, None);
-    assert!(rt; !is_query_built(&query));
+    assert!(rt; is_query_built(&star(alloc, false, 0, None)?));
+    assert!(rt; !is_query_built(&star(alloc, false, 2, None)?));
     Ok(())
 }
 
-#[test]
-fn an_aggregate_call_is_not_built(rt: HostRuntime) -> Result<(), Memory> {
-    let alloc = rt.alloc();
-    let counted = alone(alloc, PrimaryTree::CountAll);
-    let body = select(alloc, false, counted, Items::new(alloc))?;
-    let query = QueryTree::new(body, Items::new(alloc), None, None);
-    assert!(rt; !is_query_built(&query));
-    Ok(())
+/// Whether the query is one SELECT that reads one table.
+fn reads_a_table(query: &QueryTree) -> bool {
+    if !is_query_built(query) {
+        return false;
+    }
+    let CoreTree::Select(select) = only_core(body(query)) else {
+        return false;
+    };
+    let (_, from, _) = clauses(select);
+    let Some(joined) = only_joined(from) else {
+        return false;
+    };
+    matches!(only_source(joined), SourceTree::Table { .. })
 }
 
 #[test]
 fn parts_are_reached(rt: HostRuntime) -> Result<(), Memory> {
-    let query = query(rt.alloc(), false, None)?;
-    if is_query_built(&query) {
-        if let CoreTree::Select(select) = only_core(body(&query)) {
-            let (items, from, filter) = clauses(select);
-            assert!(rt; items.len() == 1 && filter.is_none());
-            if let Some(joined) = only_joined(from) {
-                assert!(rt; matches!(only_source(joined), SourceTree::Table { .. }));
-                return Ok(());
-            }
-        }
-    }
-    assert!(rt; false);
+    assert!(rt; reads_a_table(&star(rt.alloc(), false, 1, None)?));
     Ok(())
 }
 
-/// `CREATE TABLE t ( ) USING csv [OPTIONS (t 't')] LOCATION 't'`
-fn created(alloc: Global, with_option: bool) -> Result<Stmt, Memory> {
-    let mut options = Listing::new(alloc);
-    if with_option {
-        options.push((text(alloc, "t")?, text(alloc, "t")?))?;
-    }
-    let form = TableForm {
-        name: text(alloc, "t")?,
+/// `CREATE TABLE t ( ) USING csv .. LOCATION 't'`
+fn created(alloc: Global, options: OptionForms) -> Result<Stmt, Memory> {
+    let name = text(alloc, "t")?;
+    let location = text(alloc, "t")?;
+    Ok(Stmt::CreateTable(TableForm {
+        name,
         columns: Listing::new(alloc),
         options,
-        location: text(alloc, "t")?,
-    };
-    Ok(Stmt::CreateTable(form))
+        location,
+    }))
 }
 
-fn script(alloc: Global, first: Stmt, second: Stmt) -> Result<Script, Memory> {
+fn option(alloc: Global) -> Result<OptionForms, Memory> {
+    let key = text(alloc, "t")?;
+    let value = text(alloc, "t")?;
+    let mut options = Listing::new(alloc);
+    options.push((key, value))?;
+    Ok(options)
+}
+
+fn script(alloc: Global, statement: Stmt) -> Result<Script, Memory> {
     let mut script = Listing::new(alloc);
-    script.push(first)?;
-    script.push(second)?;
+    script.push(statement)?;
     Ok(script)
 }
 
 #[test]
 fn options_are_not_built(rt: HostRuntime) -> Result<(), Memory> {
     let alloc = rt.alloc();
-    let plain = script(alloc, created(alloc, false)?, created(alloc, false)?)?;
-    assert!(rt; is_script_built(&plain));
-    let with_option = script(alloc, created(alloc, false)?, created(alloc, true)?)?;
-    assert!(rt; !is_script_built(&with_option));
+    let plain = created(alloc, Listing::new(alloc))?;
+    assert!(rt; is_script_built(&script(alloc, plain)?));
+    let with_option = created(alloc, option(alloc)?)?;
+    assert!(rt; !is_script_built(&script(alloc, with_option)?));
     Ok(())
 }
 
 #[test]
 fn settings_are_not_built(rt: HostRuntime) -> Result<(), Memory> {
     let alloc = rt.alloc();
-    let set = Stmt::Set(SetForm {
-        key: text(alloc, "t")?,
-        value: text(alloc, "t")?,
-    });
-    let with_set = script(alloc, created(alloc, false)?, set)?;
-    assert!(rt; !is_script_built(&with_set));
+    let key = text(alloc, "t")?;
+    let value = text(alloc, "t")?;
+    let set = Stmt::Set(SetForm { key, value });
+    assert!(rt; !is_script_built(&script(alloc, set)?));
     Ok(())
 }
