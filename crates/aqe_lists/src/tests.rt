@@ -5,7 +5,7 @@ ghost use Rattle.aqe_values.specs.Bounds.{row_limit};
 ghost use Rattle.aqe_tables.specs.Loaded.{IsLoaded};
 ghost use Rattle.aqe_lists.specs.OneTable.{IsOver};
 
-use crate::{is_of_one_source, rows_of, scans, well_formed_plans_are_narrow};
+use crate::{is_of_one_source, rows_of, scans};
 use aqe_base::Bytes;
 use aqe_expr::{BinaryOp, Expr, UnaryOp};
 use aqe_logical::{Exprs, Logical};
@@ -176,7 +176,6 @@ fn one_row_without_values(rt: HostRuntime) -> Result<(), Fail> {
 fn a_union_scans_both_sides(rt: HostRuntime) -> Result<(), Fail> {
     let alloc = rt.alloc();
     let plan = Logical::union(alloc, scan(alloc), scan(alloc))?;
-    well_formed_plans_are_narrow();
     assert!(rt; !is_of_one_source(&plan));
     assert_eq!(rt; scans(alloc, &plan)?.as_slice(), [0, 0].as_slice());
     Ok(())
