@@ -1,0 +1,182 @@
+//! What no clause says: worked plans over a small table, and that calls succeed with ample memory.
+
+ghost use Rattle.std.specs.Prelude.{◌≤◌, length, IfOk};
+ghost use Rattle.aqe_values.specs.Bounds.{row_limit};
+ghost use Rattle.aqe_tables.specs.Loaded.{IsLoaded};
+ghost use Rattle.aqe_lists.specs.OneTable.{IsOver};
+
+use crate::{is_of_one_source, rows_of, scans};
+use aqe_base::Bytes;
+use aqe_expr::{BinaryOp, Expr, UnaryOp};
+use aqe_logical::{Exprs, Logical};
+use aqe_store::{Files, Name, SteadyStore};
+use aqe_tables::{Catalog, Tables};
+use aqe_trees::{ColumnForms, OptionForms, TableForm};
+use aqe_values::{Row, Rows, Schema, SqlType, Text, Value};
+use std::alloc::Global;
+use std::test::Fail;
+
+/// The table `t` of the columns `a INT` and `b STRING`, over the folder `t`.
+fn form_of(alloc: Global) -> Result<TableForm, Fail> {
+    let mut columns = ColumnForms::new(alloc);
+    columns.push((Text::copy_of(alloc, "a")?, SqlType::Int))?;
+    columns.push((Text::copy_of(alloc, "b")?, SqlType::Text))?;
+    Ok(TableForm {
+        name: Text::copy_of(alloc, "t")?,
+        columns,
+        options: OptionForms::new(alloc),
+        location: Text::copy_of(alloc, "t")?,
+    })
+}
+
+fn push_file(alloc: Global, files: &mut Files, path: &str, text: &str) -> Result<(), Fail> {
+    let bytes = Bytes::from_vec(Vec::from_slice(alloc, text.as_bytes())?);
+    files.push((Name::copy_of(alloc, path)?, bytes))?;
+    Ok(())
+}
+
+/// Four rows in two files; in the last `a` is NULL.
+fn files_of(alloc: Global) -> Result<Files, Fail> {
+    let mut files = Files::new(alloc);
+    push_file(alloc, &mut files, "t/a", "1,w\n2,x\n")?;
+    push_file(alloc, &mut files, "t/b", "3,y\n,z\n")?;
+    Ok(files)
+}
+
+/// The tables with `t` loaded as the table 0.
+fn loaded(alloc: Global) -> Result<Tables, Fail>
+    ensures { IfOk result (λ tables. IsLoaded tables 0) }
+{
+    let form = form_of(alloc)?;
+    let mut catalog = Catalog::new(alloc);
+    catalog.create(&form)?;
+    let mut store = SteadyStore::new(alloc, files_of(alloc)?);
+    let mut tables = Tables::new(alloc);
+    tables.load(&mut store, &catalog, 0)?;
+    Ok(tables)
+}
+
+fn scan(alloc: Global) -> Logical
+    ensures { IsOver 0 result }
+{
+    Logical::Scan {
+        table: 0,
+        schema: Schema::new(alloc),
+    }
+}
+
+#[tactic(auto, using(crate::proofs::OneTable::over))]
+fn filter(alloc: Global, condition: Expr, child: Logical) -> Result<Logical, Fail>
+    requires { IsOver 0 child }
+    ensures { IfOk result (λ plan. IsOver 0 plan) }
+{
+    let plan = Logical::filter(alloc, condition, child)?;
+    Ok(plan)
+}
+
+#[tactic(auto, using(crate::proofs::OneTable::over))]
+fn project(alloc: Global, items: Exprs, child: Logical) -> Result<Logical, Fail>
+    requires few { length items ≤ row_limit }
+    requires over { IsOver 0 child }
+    ensures { IfOk result (λ plan. IsOver 0 plan) }
+{
+    let plan = Logical::project(alloc, items, Schema::new(alloc), child)?;
+    Ok(plan)
+}
+
+/// `a > 1`
+fn above_one(alloc: Global) -> Result<Expr, Fail> {
+    let one = Expr::Literal(Value::Int(1));
+    Ok(Expr::binary(alloc, BinaryOp::Gt, Expr::Column(0), one)?)
+}
+
+/// `b, a`
+fn turned(alloc: Global) -> Result<Exprs, Fail>
+    ensures { IfOk result (λ items. length items ≤ row_limit) }
+{
+    let mut items = Exprs::new(alloc);
+    items.push(Expr::Column(1))?;
+    items.push(Expr::Column(0))?;
+    Ok(items)
+}
+
+fn push_value(alloc: Global, text: &mut String, value: &Value) -> Result<(), Fail> {
+    match value {
+        Value::Int(n) => text.push_str(format!(in alloc; "{n} ")?.as_str())?,
+        Value::Text(word) => text.push_str(word.as_str())?,
+        _ => text.push('-')?,
+    }
+    Ok(())
+}
+
+fn push_row(alloc: Global, text: &mut String, row: &Row) -> Result<(), Fail> {
+    for value in row.values() {
+        push_value(alloc, text, value)?;
+    }
+    text.push('.')?;
+    Ok(())
+}
+
+/// The values of each row, and a point behind it.
+fn shown(alloc: Global, rows: &Rows) -> Result<String, Fail> {
+    let mut text = String::new(alloc);
+    for row in rows.slice() {
+        push_row(alloc, &mut text, row)?;
+    }
+    Ok(text)
+}
+
+/// The rows of a plan over `t`.
+#[tactic(auto, using(crate::proofs::OneTable::over))]
+fn answer(alloc: Global, plan: &Logical) -> Result<String, Fail>
+    requires { IsOver 0 plan.now }
+{
+    let tables = loaded(alloc)?;
+    let rows = rows_of(alloc, plan, &tables)?;
+    shown(alloc, &rows)
+}
+
+#[test]
+fn a_filter_keeps_some(rt: HostRuntime) -> Result<(), Fail> {
+    let alloc = rt.alloc();
+    let plan = filter(alloc, above_one(alloc)?, scan(alloc))?;
+    assert_eq!(rt; answer(alloc, &plan)?.as_str(), "2 x.3 y.");
+    Ok(())
+}
+
+#[test]
+fn a_project_over_a_filter(rt: HostRuntime) -> Result<(), Fail> {
+    let alloc = rt.alloc();
+    let kept = filter(alloc, above_one(alloc)?, scan(alloc))?;
+    let plan = project(alloc, turned(alloc)?, kept)?;
+    assert_eq!(rt; answer(alloc, &plan)?.as_str(), "x2 .y3 .");
+    Ok(())
+}
+
+#[test]
+fn a_filter_over_a_project(rt: HostRuntime) -> Result<(), Fail> {
+    let alloc = rt.alloc();
+    let made = project(alloc, turned(alloc)?, scan(alloc))?;
+    let is_null = Expr::unary(alloc, UnaryOp::IsNull, Expr::Column(1))?;
+    let plan = filter(alloc, is_null, made)?;
+    assert_eq!(rt; answer(alloc, &plan)?.as_str(), "z-.");
+    Ok(())
+}
+
+#[test]
+fn one_row_without_values(rt: HostRuntime) -> Result<(), Fail> {
+    let alloc = rt.alloc();
+    let tables = Tables::new(alloc);
+    let rows = rows_of(alloc, &Logical::OneRow, &tables)?;
+    assert_eq!(rt; shown(alloc, &rows)?.as_str(), ".");
+    Ok(())
+}
+
+#[test]
+fn a_union_scans_both_sides(rt: HostRuntime) -> Result<(), Fail> {
+    let alloc = rt.alloc();
+    let plan = Logical::union(alloc, scan(alloc), scan(alloc))?;
+    assert!(rt; !is_of_one_source(&plan));
+    assert_eq!(rt; scans(alloc, &plan)?.as_slice(), [0, 0].as_slice());
+    Ok(())
+}
