@@ -1,188 +1,100 @@
--- A script can be cut in one way only.
-use Rattle.std.proofs.Common.{◌≡◌, ◌≢◌, ℕ, suc, ◌+◌, ◌<◌, ◌≤◌, List, [], ◌∷◌, ◌++◌, length, refl, ap, sym, arith, ◌∙◌, Bool, true, false, not, ◌==◌, ◌&&◌, Contains, codes, IsTrue, append_assoc, get_or, ◌⊎◌, inl, inr}
-use Rattle.std.specs.List.{flat_map, list_all}
-use Rattle.std.specs.Char.{is_ascii_lowercase}
-use Rattle.std.proofs.lemmas.List.{append_cancel_left}
-use Rattle.std.proofs.lemmas.List.Sums.{AllPass-from_list_all}
-use Rattle.std.proofs.lemmas.List.Elements.{All-contains}
-use Rattle.aqe_values.specs.declared.schema.Field.{Field}
-use Rattle.aqe_values.specs.declared.sql_type.SqlType.{SqlType}
-use Rattle.aqe_values.specs.declared.sql_type.SqlType.TheVariants as type
-use Rattle.aqe_cli.specs.Cuts.{EndsWithQuery, HaveNoEnds, IsShown, column_of, laid_out}
-use Rattle.aqe_cli.specs.Script.{IsEnding, column_text, is_column, is_column_type, is_name, is_path, is_path_byte, table_text, type_text}
+-- The statements of a script, over the files that the store tells.
+use Rattle.std.proofs.Common.{◌≡◌, ◌⊎◌, inl, inr, ℕ, suc, ◌+◌, ◌<◌, ◌≤◌, ◌-◌, ◌^◌, Bool, true, false, ◌&&◌, IsTrue, List, [], ◌∷◌, length, Option, Some, None, refl, sym, ap, subst, arith, ◌∙◌}
+use Rattle.std.specs.List.{slice_split, list_all, count_by}
+use Rattle.std.proofs.lemmas.List.Splits.{length-slice_split}
+use Rattle.std.proofs.lemmas.List.Sums.{count_by-le-length}
+use Rattle.std.specs.Prelude.{All}
+use Rattle.std.proofs.lemmas.List.Elements.{All-head, All-tail}
+use Rattle.aqe_base.specs.declared.status.Status.{Status}
+use Rattle.aqe_base.specs.declared.status.Status.TheVariants as status
+use Rattle.aqe_store.specs.Files.{Entries}
+use Rattle.aqe_store.specs.Told.{KeepsFiles, WhereTold}
+use Rattle.aqe_lexer.specs.declared.token.Token.{Token}
+use Rattle.aqe_lexer.specs.Spans.{StandsIn, InOrder}
+use Rattle.aqe_lexer.specs.TokenList.{IsTokenList}
+use Rattle.aqe_lexer.proofs.Stands as stands
+use Rattle.aqe_trees.specs.declared.statement.Stmt.{Stmt}
+use Rattle.aqe_script.specs.Statements.{IsScript, AreStatements, is_semicolon, parts_of}
+use Rattle.aqe_script.specs.Statements.AreStatements.{finished, nothing as no_statement, statement as a_statement}
+use Rattle.aqe_built.specs.Built.{is_script_built, is_statement_built}
+use Rattle.aqe_cli.specs.Course.{Stand, nothing, IsCarriedOut, IsRefusedStatement}
+use Rattle.aqe_cli.specs.Opening.{IsSource}
+use Rattle.aqe_cli.specs.Run.{IsExcuse, IsWriteExcuse}
+use Rattle.aqe_cli.specs.Steps.{IsWritten, IsHalfWritten, IsCarriedTo, EndsEarly}
+use Rattle.aqe_cli.proofs.Told.{told_all, told_then, told_before}
+use Rattle.aqe_cli.proofs.CourseFacts.{begun, carried_on, stopped}
 
-pub contains_middle : (x r : List ℕ) (e : ℕ) → Contains (x ++ e ∷ r) e
-contains_middle [] r e = (0, omega arith, refl)
-contains_middle (b ∷ x) r e =
-    let more = contains_middle x r e in
-    (suc more.0, omega (arith, more.1), more.2)
+pub begun_told : (told : Option Entries) (script : List Stmt) (old : Option (List ℕ)) → WhereTold told (λ files. IsCarriedTo files script nothing script old old)
+begun_told told script old = told_all (λ files. IsCarriedTo files script nothing script old old) told (λ files. begun files script old)
 
-first_of : (e : ℕ) (x : List ℕ) → Contains (e ∷ x) e
-first_of e x = (0, omega arith, refl)
+pub carried_told : (told now : Option Entries) (script left rest : List Stmt) (made next : Stand) (one : Stmt) (old mid new : Option (List ℕ)) → KeepsFiles told now → left ≡ one ∷ rest
+    → WhereTold told (λ files. IsCarriedTo files script made left old mid) → WhereTold now (λ files. IsWritten files made one next mid new)
+    → WhereTold told (λ files. IsCarriedTo files script next rest old new)
+carried_told told now script left rest made next one old mid new k e h w =
+    told_then (λ files. IsCarriedTo files script made left old mid) (λ files. IsWritten files made one next mid new) (λ files. IsCarriedTo files script next rest old new) told now k
+    (λ files p q. carried_on files script rest made next one old mid new (subst (λ l. IsCarriedTo files script made l old mid) e p) q) h w
 
-later : (b e : ℕ) (x : List ℕ) → Contains x e → Contains (b ∷ x) e
-later b e x h = (suc h.0, omega (arith, h.1), h.2)
+-- a status is that of a failed write, or not
+is_unwritten : (end : Status) → (end ≡ status.WriteFault) ⊎ (end ≡ status.WriteFault → ⊥)
+is_unwritten status.WriteFault = inl refl
+is_unwritten status.Done = inr (λ e. cc e)
+is_unwritten status.Usage = inr (λ e. cc e)
+is_unwritten (status.Syntax kind) = inr (λ e. cc e)
+is_unwritten (status.Analysis kind) = inr (λ e. cc e)
+is_unwritten (status.BadTable kind) = inr (λ e. cc e)
+is_unwritten status.Settings = inr (λ e. cc e)
+is_unwritten status.Events = inr (λ e. cc e)
+is_unwritten status.ReadFault = inr (λ e. cc e)
+is_unwritten status.Missing = inr (λ e. cc e)
+is_unwritten (status.Limit kind) = inr (λ e. cc e)
+is_unwritten status.Aborted = inr (λ e. cc e)
+is_unwritten status.StageAborted = inr (λ e. cc e)
+is_unwritten status.Unfinished = inr (λ e. cc e)
+is_unwritten status.Memory = inr (λ e. cc e)
+is_unwritten status.NotBuilt = inr (λ e. cc e)
 
--- the first place of a byte is one place
-pub cut_once : (e : ℕ) (x y r s : List ℕ) → x ++ e ∷ r ≡ y ++ e ∷ s → ¬ (Contains x e) → ¬ (Contains y e) → (x ≡ y) × (r ≡ s)
-cut_once e [] [] r s h m n = (refl, cc)
-cut_once e [] (b ∷ y) r s h m n = let here : e ≡ b = cc in absurd (n (rw here (first_of b y)))
-cut_once e (a ∷ x) [] r s h m n = let here : e ≡ a = cc in absurd (m (rw here (first_of a x)))
-cut_once e (a ∷ x) (b ∷ y) r s h m n =
-    let tails : x ++ e ∷ r ≡ y ++ e ∷ s = cc in
-    let heads : a ≡ b = cc in
-    let more = cut_once e x y r s tails (λ k. m (later a e x k)) (λ k. n (later b e y k)) in
-    (rw (heads, more.0) refl, more.1)
+pub stopped_told : (told now : Option Entries) (script left rest : List Stmt) (made : Stand) (one : Stmt) (end : Status) (old mid new : Option (List ℕ)) → KeepsFiles told now → left ≡ one ∷ rest
+    → WhereTold told (λ files. IsCarriedTo files script made left old mid) → WhereTold now (λ files. IsRefusedStatement files made one end ⊎ IsWriteExcuse end)
+    → ((end ≡ status.WriteFault → ⊥) → new ≡ mid) → (end ≡ status.WriteFault → WhereTold now (λ files. IsHalfWritten files made one mid new))
+    → WhereTold told (λ files. EndsEarly files script old new end)
+stopped_told None now script left rest made one end old mid new k e h why silent half = tt
+stopped_told (Some files) now script left rest made one end old mid new k e h why silent half =
+    stopped files script rest made one end old mid new (subst (λ l. IsCarriedTo files script made l old mid) e h)
+    (told_before (λ f. IsRefusedStatement f made one end ⊎ IsWriteExcuse end) (Some files) now k why) silent
+    (λ w. told_before (λ f. IsHalfWritten f made one mid new) (Some files) now k (half w)) (is_unwritten end)
 
--- where each byte passes a test, a byte that fails it is not there
-pub lacks : (p : ℕ → Bool) (xs : List ℕ) (e : ℕ) → IsTrue (list_all p xs) → p e ≡ false → ¬ (Contains xs e)
-lacks p xs e h f k =
-    let yes = All-contains (λ x. p x ≡ true) xs e (AllPass-from_list_all p xs h) k in
-    cc (yes, f)
+-- the first of some statements that are carried out so far, and the others
+pub first_built : (left rest : List Stmt) (one : Stmt) → left ≡ one ∷ rest → IsTrue (is_script_built left) → IsTrue (is_statement_built one)
+first_built left rest one e h = by (is_statement_built one) refl (subst (λ l. IsTrue (is_script_built l)) e h)
+  where
+    by : (b : Bool) → is_statement_built one ≡ b → IsTrue (is_statement_built one && is_script_built rest) → IsTrue (is_statement_built one)
+    by true f h = f
+    by false f h = absurd (let no : false ≡ true = sym (ap (λ b. b && is_script_built rest) f) ∙ h in cc no)
 
-pub both : (a b : Bool) → IsTrue (a && b) → IsTrue a × IsTrue b
-both true true h = (refl, refl)
-both true false h = cc h
-both false b h = cc h
+pub rest_built : (left rest : List Stmt) (one : Stmt) → left ≡ one ∷ rest → IsTrue (is_script_built left) → IsTrue (is_script_built rest)
+rest_built left rest one e h = by (is_statement_built one) refl (subst (λ l. IsTrue (is_script_built l)) e h)
+  where
+    by : (b : Bool) → is_statement_built one ≡ b → IsTrue (is_statement_built one && is_script_built rest) → IsTrue (is_script_built rest)
+    by true f h = sym (ap (λ b. b && is_script_built rest) f) ∙ h
+    by false f h = absurd (let no : false ≡ true = sym (ap (λ b. b && is_script_built rest) f) ∙ h in cc no)
 
-pub name_lowercase : (name : List ℕ) → IsTrue (is_name name) → IsTrue (list_all is_ascii_lowercase name)
-name_lowercase name h = (both _ _ (both _ _ h).0).1
+-- a script has no more statements than its source has bytes, and one
+few_parts : (source : List ℕ) (script : List Stmt) (parts : List (List Token)) → AreStatements source script parts → length script ≤ length parts
+few_parts source _ _ finished = omega arith
+few_parts source script _ (no_statement {parts = parts} h) = let more = few_parts source script parts h in omega (arith, more)
+few_parts source _ _ (a_statement {script = script} {parts = parts} s h) = let more = few_parts source script parts h in omega (arith, more)
 
-pub name_lacks : (name : List ℕ) (e : ℕ) → is_ascii_lowercase e ≡ false → IsTrue (is_name name) → ¬ (Contains name e)
-name_lacks name e f h = lacks is_ascii_lowercase name e (name_lowercase name h) f
+few_tokens : (source : List ℕ) (at : ℕ) (tokens : List Token) → All (StandsIn source) tokens → InOrder at tokens → at ≤ length source → at + length tokens ≤ length source
+few_tokens source at [] all order within = omega (arith, within)
+few_tokens source at (t ∷ ts) all order within =
+    let stand : StandsIn source t = All-head (StandsIn source) t ts all in
+    let more : t.end + length ts ≤ length source = few_tokens source t.end ts (All-tail (StandsIn source) t ts all) order.1 stand.within in
+    omega (arith, more, stand.some, order.0)
 
-pub path_lacks : (path : List ℕ) → IsTrue (is_path path) → ¬ (Contains path 39)
-path_lacks path h = lacks is_path_byte path 39 (both _ _ h).1 refl
-
-pub column_parts : (column : Field) → IsTrue (is_column column) → IsTrue (is_name column.name) × IsTrue (is_column_type column.kind)
-column_parts column h = both _ _ h
-
--- a type's word is not the start of another's
-type_once : (a b : SqlType) (r s : List ℕ) → IsTrue (is_column_type a) → IsTrue (is_column_type b) → type_text a ++ r ≡ type_text b ++ s → (a ≡ b) × (r ≡ s)
-type_once type.Int type.Int r s h k e = (refl, append_cancel_left (codes "INT") r s e)
-type_once type.Text type.Text r s h k e = (refl, append_cancel_left (codes "STRING") r s e)
-type_once type.Int type.Text r s h k e = let heads : ◌≡◌ {A = ℕ} 73 83 = ap (λ (l : List ℕ). get_or l 0 0) e in absurd (omega arith)
-type_once type.Text type.Int r s h k e = let heads : ◌≡◌ {A = ℕ} 83 73 = ap (λ (l : List ℕ). get_or l 0 0) e in absurd (omega arith)
-type_once type.NullType b r s h k e = cc h
-type_once type.Boolean b r s h k e = cc h
-type_once type.BigInt b r s h k e = cc h
-type_once type.Int type.NullType r s h k e = cc k
-type_once type.Int type.Boolean r s h k e = cc k
-type_once type.Int type.BigInt r s h k e = cc k
-type_once type.Text type.NullType r s h k e = cc k
-type_once type.Text type.Boolean r s h k e = cc k
-type_once type.Text type.BigInt r s h k e = cc k
-
--- a column with a text behind it, its name cut off
-pub column_spread : (column : Field) (rest : List ℕ) → column_text column ++ rest ≡ column.name ++ 32 ∷ (type_text column.kind ++ rest)
-column_spread column rest = append_assoc column.name (32 ∷ type_text column.kind) rest
-
--- the first column of a text is one column
-pub column_once : (a b : Field) (r s : List ℕ) → IsTrue (is_column a) → IsTrue (is_column b)
-    → column_text a ++ r ≡ column_text b ++ s → (a ≡ b) × (r ≡ s)
-column_once a b r s h k e =
-    let g = column_parts a h in
-    let l = column_parts b k in
-    let spread = sym (column_spread a r) ∙ e ∙ column_spread b s in
-    let names = cut_once 32 a.name b.name (type_text a.kind ++ r) (type_text b.kind ++ s) spread (name_lacks a.name 32 refl g.0) (name_lacks b.name 32 refl l.0) in
-    let kinds = type_once a.kind b.kind r s g.1 l.1 names.1 in
-    (ap (λ (n : List ℕ). column_of n a.kind) names.0 ∙ ap (λ (t : SqlType). column_of b.name t) kinds.0, kinds.1)
-
--- a text whose name is no name has no first column
-pub no_name_no_column : (name rest text : List ℕ) (column : Field) (more : List ℕ) → text ≡ name ++ 32 ∷ rest → ¬ (Contains name 32)
-    → is_name name ≡ false → IsTrue (is_column column) → text ≢ column_text column ++ more
-no_name_no_column name rest text column more e free f h k =
-    let g = column_parts column h in
-    let same = sym e ∙ k ∙ column_spread column more in
-    let names = cut_once 32 name column.name rest (type_text column.kind ++ more) same free (name_lacks column.name 32 refl g.0) in
-    let yes = g.0 in
-    cc (names.0, f, yes)
-
--- nor has a text whose type is none
-pub no_type_no_column : (name rest text : List ℕ) (column : Field) (more : List ℕ) → text ≡ name ++ 32 ∷ rest → ¬ (Contains name 32)
-    → ((kind : SqlType) (tail : List ℕ) → IsTrue (is_column_type kind) → rest ≢ type_text kind ++ tail)
-    → IsTrue (is_column column) → text ≢ column_text column ++ more
-no_type_no_column name rest text column more e free f h k =
-    let g = column_parts column h in
-    let same = sym e ∙ k ∙ column_spread column more in
-    let names = cut_once 32 name column.name rest (type_text column.kind ++ more) same free (name_lacks column.name 32 refl g.0) in
-    f column.kind more g.1 names.1
-
--- nor has a text without a space
-pub no_space_no_column : (text : List ℕ) (column : Field) (more : List ℕ) → ¬ (Contains text 32) → text ≢ column_text column ++ more
-no_space_no_column text column more free k =
-    let here = contains_middle column.name (type_text column.kind ++ more) 32 in
-    free (rw (k, column_spread column more) here)
-
--- the parts of a script are cut off one after the other
-pub no_name_part : (source : List ℕ) → ((field rest : List ℕ) → source ≢ codes "CREATE TABLE " ++ (field ++ 32 ∷ rest))
-    → (name columns location query : List ℕ) → source ≢ laid_out name columns location query
-unfolding laid_out
-no_name_part source h name columns location query e = h name _ e
-
-name_cut : (source name rest n c p q : List ℕ) → source ≡ codes "CREATE TABLE " ++ (name ++ 32 ∷ rest) → ¬ (Contains name 32) → HaveNoEnds n c p
-    → source ≡ laid_out n c p q → (name ≡ n) × (rest ≡ codes "(" ++ (c ++ 41 ∷ (codes " USING csv LOCATION '" ++ (p ++ 39 ∷ q))))
-unfolding laid_out
-name_cut source name rest n c p q e free ends l =
-    cut_once 32 name n rest _ (append_cancel_left (codes "CREATE TABLE ") _ _ (sym e ∙ l)) free ends.no_space
-
-pub no_columns_part : (source name rest : List ℕ) → source ≡ codes "CREATE TABLE " ++ (name ++ 32 ∷ rest) → ¬ (Contains name 32)
-    → ((field more : List ℕ) → rest ≢ codes "(" ++ (field ++ 41 ∷ more))
-    → (n c p q : List ℕ) → HaveNoEnds n c p → source ≢ laid_out n c p q
-no_columns_part source name rest e free h n c p q ends l = h c _ (name_cut source name rest n c p q e free ends l).1
-
-columns_cut : (source name columns rest more n c p q : List ℕ) → source ≡ codes "CREATE TABLE " ++ (name ++ 32 ∷ rest) → ¬ (Contains name 32)
-    → rest ≡ codes "(" ++ (columns ++ 41 ∷ more) → ¬ (Contains columns 41) → HaveNoEnds n c p → source ≡ laid_out n c p q
-    → (name ≡ n) × (columns ≡ c) × (more ≡ codes " USING csv LOCATION '" ++ (p ++ 39 ∷ q))
-columns_cut source name columns rest more n c p q e free k apart ends l =
-    let first = name_cut source name rest n c p q e free ends l in
-    let next = cut_once 41 columns c more _ (append_cancel_left (codes "(") _ _ (sym k ∙ first.1)) apart ends.no_close in
-    (first.0, next.0, next.1)
-
-pub no_location_part : (source name columns rest more : List ℕ) → source ≡ codes "CREATE TABLE " ++ (name ++ 32 ∷ rest) → ¬ (Contains name 32)
-    → rest ≡ codes "(" ++ (columns ++ 41 ∷ more) → ¬ (Contains columns 41)
-    → ((field tail : List ℕ) → more ≢ codes " USING csv LOCATION '" ++ (field ++ 39 ∷ tail))
-    → (n c p q : List ℕ) → HaveNoEnds n c p → source ≢ laid_out n c p q
-no_location_part source name columns rest more e free k apart h n c p q ends l =
-    h p q (columns_cut source name columns rest more n c p q e free k apart ends l).2
-
-pub all_parts : (source name columns location rest more query : List ℕ) → source ≡ codes "CREATE TABLE " ++ (name ++ 32 ∷ rest) → ¬ (Contains name 32)
-    → rest ≡ codes "(" ++ (columns ++ 41 ∷ more) → ¬ (Contains columns 41)
-    → more ≡ codes " USING csv LOCATION '" ++ (location ++ 39 ∷ query) → ¬ (Contains location 39)
-    → (source ≡ laid_out name columns location query) × HaveNoEnds name columns location
-unfolding laid_out
-all_parts source name columns location rest more query e free k apart l out =
-    (rw (← l, ← k) e, record { no_space = free; no_close = apart; no_quote = out })
-
--- the parts of a script are one and the same, however it is cut
-pub parts_once : (n c p q n' c' p' q' : List ℕ) → laid_out n c p q ≡ laid_out n' c' p' q' → HaveNoEnds n c p → HaveNoEnds n' c' p'
-    → (n ≡ n') × (c ≡ c') × (p ≡ p') × (q ≡ q')
-unfolding laid_out
-parts_once n c p q n' c' p' q' e h k =
-    let cut = columns_cut (laid_out n c p q) n c _ _ n' c' p' q' refl h.no_space refl h.no_close k e in
-    let last = cut_once 39 p p' q q' (append_cancel_left (codes " USING csv LOCATION '") _ _ cut.2) h.no_quote k.no_quote in
-    (cut.0, cut.1, last.0, last.1)
-
--- the statement and what stands behind it, as it is cut
-pub table_laid_out : (name columns location query : List ℕ) → table_text name columns location ++ query ≡ laid_out name columns location (59 ∷ query)
-unfolding laid_out
-table_laid_out name columns location query = simp append_assoc
-
--- a text that shows a table
-pub shown_gaps : (text name : List ℕ) → IsShown text (codes "; SELECT * FROM ") name ⊎ IsShown text (codes ";\nSELECT * FROM ") name → EndsWithQuery text name
-shown_gaps text name (inl h) = (_, (32, h.0, inl refl, h.1, refl), h.2)
-shown_gaps text name (inr h) = (_, (10, h.0, inr refl, h.1, refl), h.2)
-
-pub gap_shown : (text name : List ℕ) → EndsWithQuery text name → IsShown text (codes "; SELECT * FROM ") name ⊎ IsShown text (codes ";\nSELECT * FROM ") name
-gap_shown text name (query, (gap, ending, inl g, n, e), l) = inl (ending, n, rw (l, e, g) refl)
-gap_shown text name (query, (gap, ending, inr g, n, e), l) = inr (ending, n, rw (l, e, g) refl)
-
--- a text in front of which the words stand, and not the name, does not show it
-pub not_shown : (text words name rest : List ℕ) → text ≡ words ++ rest → ((more : List ℕ) → rest ≢ name ++ more) → ¬ (IsShown text words name)
-not_shown text words name rest e h s = h s.0 (append_cancel_left words rest (name ++ s.0) (sym e ∙ s.2))
-
--- what stands behind the name decides
-pub shown_ending : (text words name rest ending : List ℕ) → text ≡ words ++ rest → rest ≡ name ++ ending → IsShown text words name → IsEnding ending
-shown_ending text words name rest ending e k s =
-    let same = append_cancel_left name ending s.0 (sym k ∙ append_cancel_left words rest (name ++ s.0) (sym e ∙ s.2)) in
-    rw same s.1
+pub few_statements : (source : List ℕ) (script : List Stmt) → IsSource source script → length script ≤ length source + 1
+few_statements source script h =
+    let parts : length script ≤ length (parts_of source h.tokens) = few_parts source script (parts_of source h.tokens) h.taken.reads in
+    let cuts : length (parts_of source h.tokens) ≡ count_by (is_semicolon source) h.tokens + 1 = length-slice_split (is_semicolon source) h.tokens in
+    let some : count_by (is_semicolon source) h.tokens ≤ length h.tokens = count_by-le-length (is_semicolon source) h.tokens in
+    let tokens : 0 + length h.tokens ≤ length source = few_tokens source 0 h.tokens (stands.list_stands source h.tokens h.are) (stands.list_in_order source h.tokens h.are) (omega arith) in
+    omega (arith, parts, cuts, some, tokens)

@@ -19,7 +19,7 @@ use Rattle.aqe_values.specs.declared.sql_type.SqlType.TheVariants as type
 use Rattle.aqe_values.specs.declared.value.Value.{Value}
 use Rattle.aqe_values.specs.declared.value.Value.TheVariants as value
 use Rattle.aqe_cli.specs.ResultText.{AreRowsOf, IsOfType, IsRowOf, TextsTellRows, escaped, escaped_byte, header_text, result_text, row_text, value_text}
-use Rattle.aqe_cli.proofs.ScriptFacts.{both, contains_middle, cut_once, lacks}
+use Rattle.aqe_cli.proofs.Cutting.{both, contains_middle, cut_once, lacks}
 
 -- what a character behind a backslash stands for
 abbrev unletter : ℕ → ℕ

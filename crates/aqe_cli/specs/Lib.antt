@@ -1,8 +1,7 @@
-pub mod Fields
-pub mod Table
 pub mod ResultText
-pub mod Script
-pub mod Cuts
 pub mod Words
+pub mod Loading
+pub mod Course
+pub mod Opening
 pub mod Run
 pub mod Steps

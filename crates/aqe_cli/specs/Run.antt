@@ -1,128 +1,98 @@
--- What a run does, by its words and the files of its store. Faults and want of memory are not in it.
-use Rattle.std.specs.Prelude.{◌≡◌, ◌⊎◌, ◌<◌, ◌≤◌, ◌==◌, ◌&&◌, Bool, true, false, not, nat_le, ℕ, List, [], ◌∷◌, ◌++◌, length, Some, IsTrue, IsFalse}
-use Rattle.std.specs.List.{list_all}
+-- What a whole run does, by its words and the files of its store.
+use Rattle.std.specs.Prelude.{◌≡◌, ◌⊎◌, Bool, true, false, ℕ, List, [], ◌∷◌, ◌++◌, take, Option}
+use Rattle.std.specs.Io.KnownBytes.{Appends}
 use Rattle.aqe_base.specs.declared.status.Status.{Status}
 use Rattle.aqe_base.specs.declared.status.Status.TheVariants as status
-use Rattle.aqe_values.specs.Bounds.{text_limit}
 use Rattle.aqe_values.specs.declared.value.Value.{Value}
-use Rattle.aqe_store.specs.Files.{Entries, IsFileOf, IsFolder, IsHeld, content_of}
-use Rattle.aqe_cli.specs.declared.script.TableForm.{TableForm}
-use Rattle.aqe_cli.specs.Words.{RunsScript}
-use Rattle.aqe_cli.specs.Script.{IsScript}
-use Rattle.aqe_cli.specs.Table.{IsRefused, file_rows}
+use Rattle.aqe_store.specs.Files.{Entries}
+use Rattle.aqe_logical.specs.Answers.{AnswerOf}
+use Rattle.aqe_logical.specs.Columns.{schema_of}
+use Rattle.aqe_trees.specs.declared.statement.Stmt.{Stmt}
+use Rattle.aqe_lists.specs.LoadedTables.{tables_of}
+use Rattle.aqe_cli.specs.Course.{Stand, nothing, Query, IsRefusedStatement, Runs}
+use Rattle.aqe_cli.specs.Opening.{IsOpened, IsNotOpened}
 use Rattle.aqe_cli.specs.ResultText.{result_text}
 
--- the words name a script, which is there
-pub record ComesToScript (files : Entries) (words : List (List ℕ)) (source : List ℕ) : Type 0 where
-  pub path : List ℕ
-  pub named : RunsScript words path
-  pub held : content_of files path ≡ Some source
+-- the run is carried out, and has answered these queries
+pub record IsDone (files : Entries) (words : List (List ℕ)) (queries : List Query) : Type 0 where
+  pub script : List Stmt
+  pub opened : IsOpened files words script
+  pub end : Stand
+  pub runs : Runs files nothing script queries end []
 
--- the script is short enough and makes this table
-pub record ComesToTable (files : Entries) (words : List (List ℕ)) (form : TableForm) : Type 0 where
-  pub source : List ℕ
-  pub script : ComesToScript files words source
-  pub fits : length source ≤ text_limit
-  pub is : IsScript source form
+-- the run is refused with this status, once it has answered these queries
+pub data IsRefused (files : Entries) (words : List (List ℕ)) : List Query → Status → Type 0 where
+  at_once : (end : Status) → IsNotOpened files words end → IsRefused files words [] end
+  on_the_way : (script rest : List Stmt) (one : Stmt) (queries : List Query) (now : Stand) (end : Status)
+      → IsOpened files words script → Runs files nothing script queries now (one ∷ rest)
+      → IsRefusedStatement files now one end → IsRefused files words queries end
 
--- a data file's name does not begin with `_` or `.`
-abbrev pub is_data_name : List ℕ → Bool
-is_data_name [] = true
-is_data_name (c ∷ cs) = not (c == 95) && not (c == 46)
+-- the run comes so far that it has answered these queries
+pub data ComesTo (files : Entries) (words : List (List ℕ)) : List Query → Type 0 where
+  nowhere : ComesTo files words []
+  so_far : (script left : List Stmt) (queries : List Query) (now : Stand) → IsOpened files words script
+      → Runs files nothing script queries now left → ComesTo files words queries
 
-pub record IsDataFile (files : Entries) (folder name : List ℕ) : Type 0 where
-  pub held : IsFileOf files folder name
-  pub named : IsTrue (is_data_name name)
-
--- the folder has this data file and no other
-pub record HasOneFile (files : Entries) (folder name : List ℕ) : Type 0 where
-  pub is : IsDataFile files folder name
-  pub only : (other : List ℕ) → IsDataFile files folder other → other ≡ name
-
--- the folder has one data file, of these bytes
-pub record HasBytes (files : Entries) (folder bytes : List ℕ) : Type 0 where
-  pub name : List ℕ
-  pub one : HasOneFile files folder name
-  pub held : content_of files (folder ++ 47 ∷ name) ≡ Some bytes
-
--- a byte of a table's file that is read so far: up to `~`, and neither `"` nor `\`
-abbrev pub is_plain : ℕ → Bool
-is_plain c = nat_le c 126 && not (c == 34) && not (c == 92)
-
--- the rows of a table: those of its one data file, which is short enough, has plain bytes and is not
--- refused by the reader of CSV
-pub record HasRows (files : Entries) (form : TableForm) (rows : List (List Value)) : Type 0 where
-  pub bytes : List ℕ
-  pub file : HasBytes files form.location bytes
-  pub fits : length bytes ≤ text_limit
-  pub plain : IsTrue (list_all is_plain bytes)
-  pub taken : ¬ (IsRefused bytes)
-  pub are : rows ≡ file_rows form.columns bytes
-
--- the run prints this text: that of the table's rows under its columns
-pub record Prints (files : Entries) (words : List (List ℕ)) (text : List ℕ) : Type 0 where
-  pub form : TableForm
-  pub table : ComesToTable files words form
+-- the text of a query: that of an answer of its plan over the tables
+pub record IsTextOf (query : Query) (text : List ℕ) : Type 0 where
   pub rows : List (List Value)
-  pub has : HasRows files form rows
-  pub is : text ≡ result_text form.columns rows
+  pub answers : AnswerOf (tables_of query.tables) query.plan rows
+  pub is : text ≡ result_text (schema_of query.plan) rows
 
--- The rows of a table are not read yet where its folder has not one data file, or where that file is too long, has a
--- byte that is not plain, or is refused by the reader of CSV.
-pub data HasNoRowsYet (files : Entries) (form : TableForm) : Type 0 where
-  not_one_file : IsFolder files form.location
-      → ((name : List ℕ) → ¬ (HasOneFile files form.location name)) → HasNoRowsYet files form
-  long_file : (bytes : List ℕ) → HasBytes files form.location bytes → text_limit < length bytes
-      → HasNoRowsYet files form
-  strange_byte : (bytes : List ℕ) → HasBytes files form.location bytes → length bytes ≤ text_limit
-      → IsFalse (list_all is_plain bytes) → HasNoRowsYet files form
-  refused_file : (bytes : List ℕ) → HasBytes files form.location bytes → length bytes ≤ text_limit
-      → IsTrue (list_all is_plain bytes) → IsRefused bytes → HasNoRowsYet files form
+-- the texts of queries, one after the other
+pub data AreTexts : List Query → List ℕ → Type 0 where
+  none : AreTexts [] []
+  more : (query : Query) (queries : List Query) (text texts : List ℕ) → IsTextOf query text → AreTexts queries texts
+      → AreTexts (query ∷ queries) (text ++ texts)
 
--- the words are not `run` and a path
-abbrev pub IsMisused : List (List ℕ) → Type 0
-IsMisused words = (path : List ℕ) → ¬ (RunsScript words path)
+-- the sink grew by the texts of these queries
+abbrev pub Writes : Option (List ℕ) → Option (List ℕ) → List Query → Type 0
+Writes old new queries = (texts : List ℕ) × AreTexts queries texts × Appends old new texts
 
--- a file or folder that the run needs in its turn is not there
-pub data IsMissing (files : Entries) (words : List (List ℕ)) : Type 0 where
-  no_script : (path : List ℕ) → RunsScript words path → ¬ (IsHeld files path) → IsMissing files words
-  no_folder : (form : TableForm) → ComesToTable files words form → ¬ (IsFolder files form.location)
-      → IsMissing files words
+-- the sink grew by the texts of these queries, and by a front of the text of one more
+abbrev pub WritesFront : Option (List ℕ) → Option (List ℕ) → List Query → Query → Type 0
+WritesFront old new queries last =
+    (texts : List ℕ) × (text : List ℕ) × (n : ℕ) × AreTexts queries texts × IsTextOf last text × Appends old new (texts ++ take n text)
 
--- the run needs what this program does not have yet; the causes in the order of work
-pub data IsNotBuilt (files : Entries) (words : List (List ℕ)) : Type 0 where
-  long_script : (source : List ℕ) → ComesToScript files words source → text_limit < length source
-      → IsNotBuilt files words
-  other_script : (source : List ℕ) → ComesToScript files words source → length source ≤ text_limit
-      → ((form : TableForm) → ¬ (IsScript source form)) → IsNotBuilt files words
-  no_rows_yet : (form : TableForm) → ComesToTable files words form → HasNoRowsYet files form
-      → IsNotBuilt files words
+-- the run is refused with this status, and the texts of the queries that it answered before are written
+abbrev pub RefusesBehind : Entries → List (List ℕ) → Option (List ℕ) → Option (List ℕ) → Status → Type 0
+RefusesBehind files words old new end = (queries : List Query) × IsRefused files words queries end × Writes old new queries
 
--- no cause of a refusal holds
-pub record IsAccepted (files : Entries) (words : List (List ℕ)) : Type 0 where
-  pub used : ¬ (IsMisused words)
-  pub there : ¬ (IsMissing files words)
-  pub built : ¬ (IsNotBuilt files words)
+-- the refusals that the course of a run has
+abbrev pub is_refusal : Status → Bool
+is_refusal status.Usage = true
+is_refusal (status.Syntax kind) = true
+is_refusal (status.Analysis kind) = true
+is_refusal (status.Limit kind) = true
+is_refusal status.Missing = true
+is_refusal status.NotBuilt = true
+is_refusal status.Done = false
+is_refusal status.ReadFault = false
+is_refusal status.WriteFault = false
+is_refusal status.Memory = false
+is_refusal (status.BadTable kind) = false
+is_refusal status.Settings = false
+is_refusal status.Events = false
+is_refusal status.Aborted = false
+is_refusal status.StageAborted = false
+is_refusal status.Unfinished = false
+
+-- a store that fails and want of memory may come before any refusal
+abbrev pub IsExcuse : Status → Type 0
+IsExcuse end = (end ≡ status.Memory) ⊎ (end ≡ status.ReadFault)
+
+-- so may a sink that fails
+abbrev pub IsWriteExcuse : Status → Type 0
+IsWriteExcuse end = IsExcuse end ⊎ (end ≡ status.WriteFault)
 
 -- the answers of a run
 abbrev pub is_answer : Status → Bool
 is_answer status.Done = true
-is_answer status.Usage = true
 is_answer status.ReadFault = true
-is_answer status.Missing = true
 is_answer status.WriteFault = true
 is_answer status.Memory = true
-is_answer status.NotBuilt = true
-is_answer (status.Syntax kind) = false
-is_answer (status.Analysis kind) = false
-is_answer (status.BadTable kind) = false
-is_answer status.Settings = false
-is_answer status.Events = false
-is_answer (status.Limit kind) = false
-is_answer status.Aborted = false
-is_answer status.StageAborted = false
-is_answer status.Unfinished = false
+is_answer end = is_refusal end
 
--- an answer that may come before a cause shows: want of memory, or a failure of the store
-abbrev pub IsExcuse : Status → Type 0
-IsExcuse result = (result ≡ status.Memory) ⊎ (result ≡ status.ReadFault)
+-- nothing that the words and files tell is in the way of the run
+abbrev pub IsAccepted : Entries → List (List ℕ) → Type 0
+IsAccepted files words = (queries : List Query) (end : Status) → IsRefused files words queries end → ⊥

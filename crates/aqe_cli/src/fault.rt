@@ -1,46 +1,74 @@
 //! The line that tells why a run ended.
 
+use crate::place::FaultPlace;
 use crate::text::push_escaped;
-use aqe_base::Status;
+use aqe_base::{AnalysisKind, LimitKind, Status, SyntaxKind, TableKind};
 use aqe_store::{Sink, write_all};
 use std::alloc::{AllocError, Global};
 
 /// How the program is called, as shown where its words are not taken.
 const USAGE: &str = "usage: aqe run SCRIPT\n";
 
-/// The path that the fault line shows, if there is one.
-#[derive(Debug, Drop)]
-pub struct FaultPlace {
-    path: Vec<u8>,
-}
-
-impl FaultPlace {
-    /// No path.
-    pub fn new(alloc: Global) -> FaultPlace {
-        FaultPlace {
-            path: Vec::new(alloc),
-        }
-    }
-
-    /// Keeps a path to be shown. Where memory is wanting the line may show less of it, or nothing.
-    pub fn note(&mut self, path: &str) {
-        let _ = self.path.extend_from_slice(path.as_bytes());
+fn syntax_name(kind: SyntaxKind) -> &'static str {
+    match kind {
+        SyntaxKind::BadByte => "BadByte",
+        SyntaxKind::OpenString => "OpenString",
+        SyntaxKind::OpenQuote => "OpenQuote",
+        SyntaxKind::BadEscape => "BadEscape",
+        SyntaxKind::WideNumber => "WideNumber",
+        SyntaxKind::NotASentence => "NotASentence",
     }
 }
 
+fn analysis_name(kind: AnalysisKind) -> &'static str {
+    match kind {
+        AnalysisKind::NoSuchTable => "NoSuchTable",
+        AnalysisKind::NoSuchColumn => "NoSuchColumn",
+        AnalysisKind::Ambiguous => "Ambiguous",
+        AnalysisKind::TypeMismatch => "TypeMismatch",
+        AnalysisKind::NotGrouped => "NotGrouped",
+        AnalysisKind::BadPosition => "BadPosition",
+        AnalysisKind::UnionWidth => "UnionWidth",
+        AnalysisKind::NestedAggregate => "NestedAggregate",
+        AnalysisKind::TableExists => "TableExists",
+        AnalysisKind::BadOption => "BadOption",
+        AnalysisKind::RepeatedColumn => "RepeatedColumn",
+    }
+}
+
+fn table_name(kind: TableKind) -> &'static str {
+    match kind {
+        TableKind::BadUtf8 => "BadUtf8",
+        TableKind::BadCsv => "BadCsv",
+    }
+}
+
+fn limit_name(kind: LimitKind) -> &'static str {
+    match kind {
+        LimitKind::Depth => "Depth",
+        LimitKind::Operators => "Operators",
+        LimitKind::Columns => "Columns",
+        LimitKind::Files => "Files",
+        LimitKind::FileBytes => "FileBytes",
+        LimitKind::AllBytes => "AllBytes",
+        LimitKind::Events => "Events",
+    }
+}
+
+/// The name of the kind, or that of the status where it has no kind.
 fn name_of(status: Status) -> &'static str {
     match status {
         Status::Done => "Done",
         Status::Usage => "Usage",
-        Status::Syntax(_) => "Syntax",
-        Status::Analysis(_) => "Analysis",
-        Status::BadTable(_) => "BadTable",
+        Status::Syntax(kind) => syntax_name(kind),
+        Status::Analysis(kind) => analysis_name(kind),
+        Status::BadTable(kind) => table_name(kind),
         Status::Settings => "Settings",
         Status::Events => "Events",
         Status::ReadFault => "ReadFault",
         Status::Missing => "Missing",
         Status::WriteFault => "WriteFault",
-        Status::Limit(_) => "Limit",
+        Status::Limit(kind) => limit_name(kind),
         Status::Aborted => "Aborted",
         Status::StageAborted => "StageAborted",
         Status::Unfinished => "Unfinished",
@@ -53,9 +81,9 @@ fn fault_line(alloc: Global, status: Status, place: &FaultPlace) -> Result<Vec<u
     let mut line = Vec::new(alloc);
     line.extend_from_slice(b"aqe: ")?;
     line.extend_from_slice(name_of(status).as_bytes())?;
-    if !place.path.is_empty() {
+    if !place.shown().is_empty() {
         line.push(b' ')?;
-        push_escaped(&mut line, place.path.as_slice())?;
+        push_escaped(&mut line, place.shown())?;
     }
     line.push(b'\n')?;
     if status == Status::Usage {
@@ -64,10 +92,10 @@ fn fault_line(alloc: Global, status: Status, place: &FaultPlace) -> Result<Vec<u
     Ok(line)
 }
 
-/// Writes the fault line of a run that did not end well: `aqe: `, the status's name, and the path
+/// Writes the fault line of a run that did not end well: `aqe: `, the name of what is wrong, and the place, name or path
 /// where there is one. Where the words were not taken it tells how to call the program, too.
 /// A failing sink changes nothing.
-pub fn report<E: Sink>(alloc: Global, err: &mut E, status: Status, place: &FaultPlace) {
+pub(crate) fn report<E: Sink>(alloc: Global, err: &mut E, status: Status, place: &FaultPlace) {
     if status == Status::Done {
         return;
     }

@@ -1,15 +1,18 @@
-//! The command of the engine: the words, the script, its table and the printed result.
+//! The command of the engine: the words, the script, its statements one by one and the printed results.
 #![tactic(auto)]
 
 mod fault;
 mod laws;
+mod loading;
+mod opening;
+mod place;
+mod position;
 mod run;
-mod script;
-mod table;
+mod statement;
 mod text;
 mod words;
 
-pub use laws::{sources_make_one_table, texts_tell_rows};
+pub use laws::texts_tell_rows;
 pub use run::run_words;
 pub use text::result_text;
 

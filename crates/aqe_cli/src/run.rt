@@ -1,228 +1,87 @@
 //! One run of the program, from its words to its status.
 
-ghost use Rattle.std.specs.Prelude.{◌≡◌, ◌≢◌, ◌⊎◌, ◌↔◌, ◌∷◌, ◌++◌, ◌≤◌, ℕ, List, [], Some, Ok, Err};
-ghost use Rattle.std.specs.Prelude.{length, filter, map, string_bytes, IsTrue, IfErr, IfOk, MatchOption};
-ghost use Rattle.std.specs.List.{list_all};
-ghost use Rattle.std.specs.Io.KnownBytes.{Appends};
+ghost use Rattle.std.specs.Prelude.{◌≡◌, ◌≢◌, ◌⊎◌, ◌↔◌, ◌≤◌, ◌<◌, ◌-◌, ◌^◌, ◌∷◌, ◌++◌, [], List, ℕ, length, map, string_bytes, IsTrue, IfErr, OnOk, MatchOption, Err};
 ghost use Rattle.aqe_base.specs.declared.status.Status.TheVariants as status;
-ghost use Rattle.aqe_values.specs.Bounds.{text_limit};
-ghost use Rattle.aqe_store.specs.Files.{IsFolder, IsHeld, content_of};
+ghost use Rattle.aqe_base.specs.declared.status.SyntaxKind.{SyntaxKind as SyntaxCause};
+ghost use Rattle.aqe_base.specs.declared.status.AnalysisKind.{AnalysisKind as AnalysisCause};
+ghost use Rattle.aqe_base.specs.declared.status.LimitKind.{LimitKind as LimitCause};
+ghost use Rattle.aqe_base.specs.declared.status.Status.{Status as End};
 ghost use Rattle.aqe_store.specs.Told.{KeepsFiles, WhereTold};
 ghost use Rattle.aqe_store.specs.Causes.{Rose};
-ghost use Rattle.aqe_store.specs.Reading.{IsLonger};
-ghost use Rattle.aqe_store.specs.Sink.{AppendsFront};
-ghost use Rattle.aqe_cli.specs.Run.{ComesToTable, HasNoRowsYet, HasOneFile, HasRows, Prints};
-ghost use Rattle.aqe_cli.specs.Run.{IsAccepted, IsExcuse, IsMisused, IsMissing, IsNotBuilt, is_answer};
-ghost use Rattle.aqe_cli.specs.Run.{is_data_name as is_data_name_text, is_plain as is_plain_byte};
-ghost use Rattle.aqe_cli.specs.Steps.{IsStep};
+ghost use Rattle.aqe_built.specs.Built.{is_script_built};
+ghost use Rattle.aqe_cli.specs.Course.{Query, Stand as Standing};
+ghost use Rattle.aqe_cli.specs.Opening.{IsMisused};
+ghost use Rattle.aqe_cli.specs.Run.{ComesTo, IsAccepted, IsDone, IsExcuse, IsRefused, IsWriteExcuse, RefusesBehind, Writes, WritesFront, is_answer};
+ghost use Rattle.aqe_cli.specs.Steps.{Ends, EndsEarly, IsCarriedTo, IsStep, is_early_end, is_statement_end};
 
-use crate::fault::{FaultPlace, report};
-use crate::script::{TableForm, table_of};
-use crate::table::{TableFail, read_rows};
-use crate::text::result_text;
-use crate::words::script_path;
-use aqe_base::{Bytes, Status};
-use aqe_store::{Name, ReadFail, Sink, Store, StoreFail, read_all, write_all};
-use aqe_values::Rows;
+use crate::fault::report;
+use crate::opening::opened;
+use crate::place::FaultPlace;
+use crate::statement::{Stand, carried_out};
+use aqe_base::Status;
+use aqe_store::{Sink, Store};
+use aqe_trees::Stmt;
 use std::alloc::Global;
 
-/// The most bytes that a file may have.
-const FILE_LIMIT: u64 = 67108864;
+/// The first statement, and those behind it.
+fn next(script: &[Stmt]) -> Option<(&Stmt, &[Stmt])>
+    ensures { MatchOption result (script.now ≡ []) (λ x. script.now ≡ x.0.now ∷ x.1.now) }
+{
+    match script {
+        [] => None,
+        [first, rest @ ..] => Some((first, rest)),
+    }
+}
 
-fn read_file<S: Store>(
+/// Carries out the statements in order.
+fn run_script<S: Store, O: Sink>(
     alloc: Global,
+    script: &[Stmt],
     store: &mut S,
-    path: &str,
+    out: &mut O,
     place: &mut FaultPlace,
-) -> Result<Bytes, Status>
-    ensures content { IfOk result (λ bytes. WhereTold (S.files store.old)
-        (λ files. content_of files path.now ≡ Some bytes)) }
-    ensures bound { IfOk result (λ bytes. length bytes ≤ text_limit) }
-    ensures long { result ≡ Err status.NotBuilt
-        → WhereTold (S.files store.old) (λ files. IsLonger files path.now text_limit) }
-    ensures missing { result ≡ Err status.Missing
-        → WhereTold (S.files store.old) (λ files. ¬ (IsHeld files path.now)) }
-    ensures used { result ≢ Err status.Usage }
+) -> Result<(), Status>
+    requires built { IsTrue (is_script_built script.now) }
+    requires few { length script.now < 2 ^ 32 - 1 }
+    ensures done { OnOk result (WhereTold (S.files store.old)
+        (λ files. (end : Standing) × IsCarriedTo files script.now end [] (O.taken out.old) (O.taken out.new))) }
+    ensures early { IfErr result (λ end. WhereTold (S.files store.old)
+        (λ files. EndsEarly files script.now (O.taken out.old) (O.taken out.new) end)) }
+    ensures named { IfErr result (λ end. IsTrue (is_statement_end end)) }
+    ensures write_fault { IfErr result (λ end. end ≡ status.WriteFault → Rose (O.faults out.old) (O.faults out.new)) }
     ensures step { IsStep (S.files store.old) (S.files store.new) (S.faults store.old)
         (S.faults store.new) (S.misses store.old) (S.misses store.new) result }
 {
-    match read_all(alloc, store, path, FILE_LIMIT) {
-        Ok(bytes) => Ok(bytes),
-        Err(ReadFail::Failed) => Err(Status::ReadFault),
-        Err(ReadFail::TooLong) => Err(Status::NotBuilt),
-        Err(ReadFail::Memory) => Err(Status::Memory),
-        Err(ReadFail::Missing) => {
-            place.note(path);
-            Err(Status::Missing)
-        }
+    let mut made = Stand::new(alloc);
+    let mut left = script;
+    'statements: while let Some((one, rest)) = next(left) {
+        carried_out(alloc, one, &mut made, store, out, place)?;
+        left = rest;
     }
+    Ok(())
 }
 
-fn is_data_name(name: &str) -> bool
-    ensures { result ≡ is_data_name_text name.now }
-{
-    match name.as_bytes().first() {
-        Some(byte) => *byte != b'_' && *byte != b'.',
-        None => true,
-    }
-}
-
-fn is_plain(bytes: &[u8]) -> bool
-    ensures { result ≡ list_all is_plain_byte bytes.now }
-{
-    bytes
-        .iter()
-        .all(|byte| *byte <= b'~' && *byte != b'"' && *byte != b'\\')
-}
-
-/// The one name among these that a data file has, or none where not exactly one is such.
-fn only_data_name(names: &[Name]) -> Option<&Name>
-    ensures { MatchOption result
-        (length (filter is_data_name_text names.now) ≢ 1)
-        (λ name. filter is_data_name_text names.now ≡ name.now ∷ []) }
-{
-    let mut found = None;
-    'names: for name in names {
-        if is_data_name(name.as_str()) {
-            if found.is_some() {
-                return None;
-            }
-            found = Some(name);
-        }
-    }
-    found
-}
-
-/// The path of a file of a folder.
-fn path_in(alloc: Global, folder: &str, name: &str) -> Result<String, Status>
-    ensures path { IfOk result (λ path. string_bytes path ≡ folder.now ++ 47 ∷ name.now) }
-    ensures memory { IfErr result (λ end. end ≡ status.Memory) }
-{
-    let Ok(mut path) = String::from_str(alloc, folder) else {
-        return Err(Status::Memory);
-    };
-    if path.push('/').is_err() || path.push_str(name).is_err() {
-        return Err(Status::Memory);
-    }
-    Ok(path)
-}
-
-/// The path of the one data file of a folder.
-fn data_path<S: Store>(
-    alloc: Global,
-    store: &mut S,
-    folder: &str,
-    place: &mut FaultPlace,
-) -> Result<String, Status>
-    ensures found { IfOk result (λ path. WhereTold (S.files store.old) (λ files.
-        (name : List ℕ) × HasOneFile files folder.now name
-        × (string_bytes path ≡ folder.now ++ 47 ∷ name))) }
-    ensures not_one { result ≡ Err status.NotBuilt → WhereTold (S.files store.old) (λ files.
-        IsFolder files folder.now × ((name : List ℕ) → ¬ (HasOneFile files folder.now name))) }
-    ensures missing { result ≡ Err status.Missing
-        → WhereTold (S.files store.old) (λ files. ¬ (IsFolder files folder.now)) }
-    ensures used { result ≢ Err status.Usage }
-    ensures step { IsStep (S.files store.old) (S.files store.new) (S.faults store.old)
-        (S.faults store.new) (S.misses store.old) (S.misses store.new) result }
-{
-    match store.list(alloc, folder) {
-        Ok(names) => match only_data_name(names.slice()) {
-            Some(name) => path_in(alloc, folder, name.as_str()),
-            None => Err(Status::NotBuilt),
-        },
-        Err(StoreFail::Failed) => Err(Status::ReadFault),
-        Err(StoreFail::Memory) => Err(Status::Memory),
-        Err(StoreFail::Missing) => {
-            place.note(folder);
-            Err(Status::Missing)
-        }
-    }
-}
-
-/// The table that the script of these words makes.
-fn script_table<S: Store>(
+/// Opens the script and carries it out.
+fn run<S: Store, O: Sink>(
     alloc: Global,
     words: &[String],
     store: &mut S,
+    out: &mut O,
     place: &mut FaultPlace,
-) -> Result<TableForm, Status>
-    ensures table { IfOk result (λ form. WhereTold (S.files store.old)
-        (λ files. ComesToTable files (map string_bytes words.now) form)) }
-    ensures width { IfOk result (λ form. length form.columns ≤ 256) }
-    ensures used { result ≡ Err status.Usage → IsMisused (map string_bytes words.now) }
-    ensures named { IsMisused (map string_bytes words.now) → result ≡ Err status.Usage }
-    ensures not_built { result ≡ Err status.NotBuilt → WhereTold (S.files store.old)
-        (λ files. IsNotBuilt files (map string_bytes words.now)) }
-    ensures missing { result ≡ Err status.Missing → WhereTold (S.files store.old)
-        (λ files. IsMissing files (map string_bytes words.now)) }
+) -> Result<(), Status>
+    ensures done { OnOk result (WhereTold (S.files store.old) (λ files. (queries : List Query)
+        × IsDone files (map string_bytes words.now) queries
+        × Writes (O.taken out.old) (O.taken out.new) queries)) }
+    ensures early { IfErr result (λ end. WhereTold (S.files store.old)
+        (λ files. Ends files (map string_bytes words.now) (O.taken out.old) (O.taken out.new) end)) }
+    ensures used { result ≡ Err status.Usage ↔ IsMisused (map string_bytes words.now) }
+    ensures named { IfErr result (λ end. IsTrue (is_early_end end)) }
+    ensures write_fault { IfErr result (λ end. end ≡ status.WriteFault → Rose (O.faults out.old) (O.faults out.new)) }
     ensures step { IsStep (S.files store.old) (S.files store.new) (S.faults store.old)
         (S.faults store.new) (S.misses store.old) (S.misses store.new) result }
 {
-    let Some(path) = script_path(words) else {
-        return Err(Status::Usage);
-    };
-    let source = read_file(alloc, store, path, place)?;
-    match table_of(alloc, source.slice()) {
-        Ok(Some(form)) => Ok(form),
-        Ok(None) => Err(Status::NotBuilt),
-        Err(_) => Err(Status::Memory),
-    }
-}
-
-/// The rows of a table's one data file.
-fn table_rows<S: Store>(
-    alloc: Global,
-    form: &TableForm,
-    store: &mut S,
-    place: &mut FaultPlace,
-) -> Result<Rows, Status>
-    requires { length form.now.columns ≤ 256 }
-    ensures rows { IfOk result (λ rows. WhereTold (S.files store.old)
-        (λ files. HasRows files form.now rows)) }
-    ensures not_built { result ≡ Err status.NotBuilt → WhereTold (S.files store.old)
-        (λ files. HasNoRowsYet files form.now) }
-    ensures missing { result ≡ Err status.Missing → WhereTold (S.files store.old)
-        (λ files. ¬ (IsFolder files form.now.location)) }
-    ensures used { result ≢ Err status.Usage }
-    ensures step { IsStep (S.files store.old) (S.files store.new) (S.faults store.old)
-        (S.faults store.new) (S.misses store.old) (S.misses store.new) result }
-{
-    let path = data_path(alloc, store, form.location.as_str(), place)?;
-    let bytes = read_file(alloc, store, path.as_str(), place)?;
-    if !is_plain(bytes.slice()) {
-        return Err(Status::NotBuilt);
-    }
-    match read_rows(alloc, form.columns.slice(), bytes.slice()) {
-        Ok(rows) => Ok(rows),
-        Err(TableFail::Refused) => Err(Status::NotBuilt),
-        Err(TableFail::Memory) => Err(Status::Memory),
-    }
-}
-
-/// The text that the run of these words prints.
-fn printed<S: Store>(
-    alloc: Global,
-    words: &[String],
-    store: &mut S,
-    place: &mut FaultPlace,
-) -> Result<Bytes, Status>
-    ensures text { IfOk result (λ text. WhereTold (S.files store.old)
-        (λ files. Prints files (map string_bytes words.now) text)) }
-    ensures used { result ≡ Err status.Usage → IsMisused (map string_bytes words.now) }
-    ensures named { IsMisused (map string_bytes words.now) → result ≡ Err status.Usage }
-    ensures not_built { result ≡ Err status.NotBuilt → WhereTold (S.files store.old)
-        (λ files. IsNotBuilt files (map string_bytes words.now)) }
-    ensures missing { result ≡ Err status.Missing → WhereTold (S.files store.old)
-        (λ files. IsMissing files (map string_bytes words.now)) }
-    ensures step { IsStep (S.files store.old) (S.files store.new) (S.faults store.old)
-        (S.faults store.new) (S.misses store.old) (S.misses store.new) result }
-{
-    let form = script_table(alloc, words, store, place)?;
-    let rows = table_rows(alloc, &form, store, place)?;
-    match result_text(alloc, &form.columns, &rows) {
-        Ok(text) => Ok(text),
-        Err(_) => Err(Status::Memory),
-    }
+    let script = opened(alloc, words, store, place)?;
+    run_script(alloc, script.slice(), store, out, place)
 }
 
 /// Reports how a run ended, and hands the status on.
@@ -233,12 +92,12 @@ fn ended<E: Sink>(alloc: Global, err: &mut E, end: Status, place: &FaultPlace) -
     end
 }
 
-/// Runs the program on its words, those after the program's name: reads the script, reads the
-/// table's file, and writes the table's rows to `out`.
+/// Runs the program on its words, those after the program's name: reads the script that they name, and carries out its
+/// statements one by one.
 ///
-/// The text is made whole before its first byte is written. Where the run does not end well, one
-/// line on `err` tells why; a failing `err` changes nothing. Clauses on content speak where the
-/// store, or `out`, tells it.
+/// CREATE TABLE enters the catalog and reads nothing. A query is analysed, its tables are loaded, each once in a run, and its
+/// text is made whole before its first byte is written. The first refusal ends the run; what was written stays. One line on
+/// `err` tells why; a failing `err` changes nothing. Clauses on content speak where the store, or `out`, tells it.
 pub fn run_words<S: Store, O: Sink, E: Sink>(
     alloc: Global,
     words: &[String],
@@ -246,40 +105,42 @@ pub fn run_words<S: Store, O: Sink, E: Sink>(
     out: &mut O,
     err: &mut E,
 ) -> Status
-    // What success means: `out` grew by the printed rows of the table's file, and by nothing else.
-    ensures done { result ≡ status.Done → WhereTold (S.files store.old) (λ files.
-        (text : List ℕ) × Prints files (map string_bytes words.now) text
-        × Appends (O.taken out.old) (O.taken out.new) text) }
+    // What success means: `out` grew by the printed text of one answer for each query, in order, and by nothing else.
+    ensures done { result ≡ status.Done → WhereTold (S.files store.old) (λ files. (queries : List Query)
+        × IsDone files (map string_bytes words.now) queries
+        × Writes (O.taken out.old) (O.taken out.new) queries) }
 
-    // Each refusal has its cause.
+    // Each refusal has its cause in the words and files, and the texts of the queries before it are written.
     ensures usage { result ≡ status.Usage ↔ IsMisused (map string_bytes words.now) }
-    ensures not_built { result ≡ status.NotBuilt → WhereTold (S.files store.old)
-        (λ files. IsNotBuilt files (map string_bytes words.now)) }
+    ensures syntax { (kind : SyntaxCause) → result ≡ status.Syntax kind → WhereTold (S.files store.old)
+        (λ files. RefusesBehind files (map string_bytes words.now) (O.taken out.old) (O.taken out.new) (status.Syntax kind)) }
+    ensures analysis { (kind : AnalysisCause) → result ≡ status.Analysis kind → WhereTold (S.files store.old)
+        (λ files. RefusesBehind files (map string_bytes words.now) (O.taken out.old) (O.taken out.new) (status.Analysis kind)) }
+    ensures limit { (kind : LimitCause) → result ≡ status.Limit kind → WhereTold (S.files store.old)
+        (λ files. RefusesBehind files (map string_bytes words.now) (O.taken out.old) (O.taken out.new) (status.Limit kind)) }
     ensures missing { result ≡ status.Missing → WhereTold (S.files store.old)
-        (λ files. IsMissing files (map string_bytes words.now)) }
-    ensures missed { result ≡ status.Missing
-        → Rose (S.misses store.old) (S.misses store.new) }
-    ensures read_fault { result ≡ status.ReadFault
-        → Rose (S.faults store.old) (S.faults store.new) }
-    ensures write_fault { result ≡ status.WriteFault
-        → Rose (O.faults out.old) (O.faults out.new) }
+        (λ files. RefusesBehind files (map string_bytes words.now) (O.taken out.old) (O.taken out.new) status.Missing) }
+    ensures not_built { result ≡ status.NotBuilt → WhereTold (S.files store.old)
+        (λ files. RefusesBehind files (map string_bytes words.now) (O.taken out.old) (O.taken out.new) status.NotBuilt) }
+    ensures missed { result ≡ status.Missing → Rose (S.misses store.old) (S.misses store.new) }
+    ensures read_fault { result ≡ status.ReadFault → Rose (S.faults store.old) (S.faults store.new) }
+    ensures write_fault { result ≡ status.WriteFault → Rose (O.faults out.old) (O.faults out.new) }
     ensures named { IsTrue (is_answer result) }
 
-    // What a refusal leaves: after a failed write a front of the text, and else nothing.
-    ensures front { result ≡ status.WriteFault → WhereTold (S.files store.old) (λ files.
-        (text : List ℕ) × Prints files (map string_bytes words.now) text
-        × AppendsFront (O.taken out.old) (O.taken out.new) text) }
-    ensures silent { result ≢ status.Done → result ≢ status.WriteFault
-        → O.taken out.new ≡ O.taken out.old }
-    ensures keeps { KeepsFiles (S.files store.old) (S.files store.new) }
+    // Where the words and files have a cause, its refusal comes, unless a failure or want of memory came first.
+    ensures always { WhereTold (S.files store.old) (λ files. (queries : List Query) (end : End)
+        → IsRefused files (map string_bytes words.now) queries end → (result ≡ end) ⊎ IsWriteExcuse result) }
 
-    // Where a cause holds, its answer comes, unless a failure or want of memory came first.
-    ensures not_built_always { WhereTold (S.files store.old) (λ files.
-        IsNotBuilt files (map string_bytes words.now)
-        → (result ≡ status.NotBuilt) ⊎ IsExcuse result) }
-    ensures missing_always { WhereTold (S.files store.old) (λ files.
-        IsMissing files (map string_bytes words.now)
-        → (result ≡ status.Missing) ⊎ IsExcuse result) }
+    // Where the store fails or memory is wanting, the texts of the queries before are written; where `out` fails, a front
+    // of one more.
+    ensures partly { IsExcuse result → WhereTold (S.files store.old) (λ files. (queries : List Query)
+        × ComesTo files (map string_bytes words.now) queries
+        × Writes (O.taken out.old) (O.taken out.new) queries) }
+    ensures front { result ≡ status.WriteFault → WhereTold (S.files store.old)
+        (λ files. (queries : List Query) × (last : Query)
+        × ComesTo files (map string_bytes words.now) (queries ++ last ∷ [])
+        × WritesFront (O.taken out.old) (O.taken out.new) queries last) }
+    ensures keeps { KeepsFiles (S.files store.old) (S.files store.new) }
 
     // Where no cause holds and nothing fails, the run is carried out or memory is wanting.
     ensures completes { WhereTold (S.files store.old) (λ files.
@@ -289,11 +150,8 @@ pub fn run_words<S: Store, O: Sink, E: Sink>(
         → (result ≡ status.Done) ⊎ (result ≡ status.Memory)) }
 {
     let mut place = FaultPlace::new(alloc);
-    match printed(alloc, words, store, &mut place) {
-        Ok(text) => match write_all(out, text.slice()) {
-            Ok(()) => Status::Done,
-            Err(_) => ended(alloc, err, Status::WriteFault, &place),
-        },
+    match run(alloc, words, store, out, &mut place) {
+        Ok(()) => Status::Done,
         Err(end) => ended(alloc, err, end, &place),
     }
 }

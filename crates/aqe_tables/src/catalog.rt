@@ -187,4 +187,12 @@ impl Catalog {
     {
         &self.table(table).form.schema
     }
+
+    /// The folder of a table's data files.
+    pub fn location(&self, table: u32) -> &Text
+        requires { table < length self.now }
+        ensures { option_map (λ t. t.location) (slice_get self.now table) ≡ Some result.now }
+    {
+        &self.table(table).location
+    }
 }
