@@ -182,11 +182,19 @@ fn turned_rows(alloc: Global, child: Logical) -> Result<Logical, Fail>
     Ok(plan)
 }
 
+/// The rows of a plan over `t`, which goes here.
+fn answered(alloc: Global, plan: Logical) -> Result<String, Fail>
+    requires { IsOver 0 plan }
+{
+    answer(alloc, &plan)
+}
+
 #[test]
 fn a_filter_keeps_some(rt: HostRuntime) -> Result<(), Fail> {
     let alloc = rt.alloc();
     let plan = kept_rows(alloc)?;
-    assert_eq!(rt; answer(alloc, &plan)?.as_str(), "2 x.3 y.");
+    let text = answered(alloc, plan)?;
+    assert_eq!(rt; text.as_str(), "2 x.3 y.");
     Ok(())
 }
 
@@ -195,17 +203,28 @@ fn a_project_over_a_filter(rt: HostRuntime) -> Result<(), Fail> {
     let alloc = rt.alloc();
     let kept = kept_rows(alloc)?;
     let plan = turned_rows(alloc, kept)?;
-    assert_eq!(rt; answer(alloc, &plan)?.as_str(), "x2 .y3 .");
+    let text = answered(alloc, plan)?;
+    assert_eq!(rt; text.as_str(), "x2 .y3 .");
     Ok(())
+}
+
+/// The rows of a plan whose second column is NULL.
+fn null_rows(alloc: Global, child: Logical) -> Result<Logical, Fail>
+    requires { IsOver 0 child }
+    ensures { IfOk result (λ plan. IsOver 0 plan) }
+{
+    let is_null = Expr::unary(alloc, UnaryOp::IsNull, Expr::Column(1))?;
+    let plan = filter(alloc, is_null, child)?;
+    Ok(plan)
 }
 
 #[test]
 fn a_filter_over_a_project(rt: HostRuntime) -> Result<(), Fail> {
     let alloc = rt.alloc();
     let made = turned_rows(alloc, scan(alloc))?;
-    let is_null = Expr::unary(alloc, UnaryOp::IsNull, Expr::Column(1))?;
-    let plan = filter(alloc, is_null, made)?;
-    assert_eq!(rt; answer(alloc, &plan)?.as_str(), "z-.");
+    let plan = null_rows(alloc, made)?;
+    let text = answered(alloc, plan)?;
+    assert_eq!(rt; text.as_str(), "z-.");
     Ok(())
 }
 
@@ -218,11 +237,18 @@ fn one_row_without_values(rt: HostRuntime) -> Result<(), Fail> {
     Ok(())
 }
 
+/// The scans of a plan, which goes here.
+fn scanned(alloc: Global, plan: Logical) -> Result<Vec<u32>, Fail> {
+    let found = scans(alloc, &plan)?;
+    Ok(found)
+}
+
 #[test]
 fn a_union_scans_both_sides(rt: HostRuntime) -> Result<(), Fail> {
     let alloc = rt.alloc();
     let plan = Logical::union(alloc, scan(alloc), scan(alloc))?;
     assert!(rt; !is_of_one_source(&plan));
-    assert_eq!(rt; scans(alloc, &plan)?.as_slice(), [0, 0].as_slice());
+    let found = scanned(alloc, plan)?;
+    assert_eq!(rt; found.as_slice(), [0, 0].as_slice());
     Ok(())
 }
