@@ -1,0 +1,6 @@
+pub mod FormSteps
+pub mod AnswerSteps
+pub mod Behind
+pub mod Files
+pub mod Narrow
+pub mod OneTable

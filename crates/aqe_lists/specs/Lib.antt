@@ -1,0 +1,5 @@
+pub mod LoadedTables
+pub mod Forms
+pub mod Lists
+pub mod Laws
+pub mod OneTable
