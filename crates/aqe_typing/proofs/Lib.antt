@@ -1,0 +1,3 @@
+pub mod StepLemmas
+pub mod ListSteps
+pub mod Prefixes

@@ -12,7 +12,7 @@ use aqe_trees::{ItemTree, OrTree};
 use std::alloc::Global;
 
 /// What the expression means over the columns, where no alias may be used and no aggregate call may stand.
-#[tactic(auto, using(Rattle::aqe_rules::proofs::Steps::memory_fails))]
+#[tactic(auto, using(aqe_rules::proofs::Steps::memory_fails))]
 pub fn value_over(alloc: Global, tree: &OrTree, columns: &[Named]) -> Result<Typed, AnalysisFault>
     ensures { Says result (read tree.now (over columns.now)).value }
 {
@@ -21,7 +21,7 @@ pub fn value_over(alloc: Global, tree: &OrTree, columns: &[Named]) -> Result<Typ
 }
 
 /// What the expression means where a name that no column has may be an alias of the select list.
-#[tactic(auto, using(Rattle::aqe_rules::proofs::Steps::memory_fails))]
+#[tactic(auto, using(aqe_rules::proofs::Steps::memory_fails))]
 pub fn value_with_aliases(
     alloc: Global,
     tree: &OrTree,
