@@ -1,3 +1,5 @@
 pub mod StepLemmas
 pub mod ListSteps
 pub mod Prefixes
+pub mod CaseSteps
+pub mod CallSteps

@@ -1,6 +1,8 @@
 //! Expressions read at their place: from a tree to a typed expression over the columns of a row.
 #![tactic(auto)]
 
+mod calls;
+mod cases;
 mod literals;
 mod names;
 mod steps;
