@@ -3,3 +3,5 @@ pub mod ListSteps
 pub mod Prefixes
 pub mod CaseSteps
 pub mod CallSteps
+pub mod LevelValues
+pub mod Turns

@@ -19,7 +19,7 @@ use Rattle.aqe_rules.specs.Outcomes.{Outcome, refused, upon, each, if_any, provi
 use Rattle.aqe_rules.specs.Operations as operation
 use Rattle.aqe_rules.specs.declared.typed.Typed.{Typed}
 use Rattle.aqe_rules.specs.Operations.{mismatch}
-use Rattle.aqe_rules.specs.Readings.{Place, leaf, readings, arm_value, the_argument, function_value, takes}
+use Rattle.aqe_rules.specs.Readings.{Place, Reading, readings, arm_value, the_argument, function_value, takes}
 use Rattle.aqe_rules.specs.Faults.{Fails}
 use Rattle.aqe_rules.specs.Trees.{made_of, made_of_and, made_of_not, made_of_predicate, made_of_test, made_of_comparison, made_of_sum, made_of_product, made_of_sign, made_of_primary, made_of_arm}
 
@@ -51,9 +51,9 @@ value_of_sign tree place = (made_of_sign readings tree place).value
 unfoldable pub value_of_primary : PrimaryTree → Place → Outcome Typed
 value_of_primary tree place = (made_of_primary readings tree place).value
 
--- a test, over what the value that it asks about comes to
-unfoldable pub value_of_test : Test → Outcome Typed → Place → Outcome Typed
-value_of_test test outcome place = (made_of_test readings test (λ p. leaf outcome) place).value
+-- a test, over the reading of the value that it asks about
+unfoldable pub value_of_test : Test → (Place → Reading) → Place → Outcome Typed
+value_of_test test value place = (made_of_test readings test value place).value
 
 unfoldable pub value_of_arm : Arm → Place → Outcome (Typed × Typed)
 value_of_arm arm place = arm_value ((made_of_arm readings arm).0 place, (made_of_arm readings arm).1 place)

@@ -3,6 +3,7 @@
 
 mod calls;
 mod cases;
+mod levels;
 mod literals;
 mod names;
 mod steps;
