@@ -5,3 +5,4 @@ pub mod CaseSteps
 pub mod CallSteps
 pub mod LevelValues
 pub mod Turns
+pub mod AliasSteps

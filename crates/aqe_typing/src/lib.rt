@@ -1,6 +1,7 @@
 //! Expressions read at their place: from a tree to a typed expression over the columns of a row.
 #![tactic(auto)]
 
+mod aliases;
 mod calls;
 mod cases;
 mod levels;
