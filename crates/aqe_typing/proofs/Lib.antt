@@ -6,3 +6,4 @@ pub mod CallSteps
 pub mod LevelValues
 pub mod Turns
 pub mod AliasSteps
+pub mod ColumnsAlone

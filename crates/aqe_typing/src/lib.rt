@@ -4,6 +4,7 @@
 mod aliases;
 mod calls;
 mod cases;
+mod column;
 mod levels;
 mod literals;
 mod names;

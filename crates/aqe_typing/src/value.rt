@@ -8,6 +8,7 @@ ghost use Rattle.aqe_rules.specs.Faults.{Says};
 ghost use Rattle.aqe_typing.specs.Columns.{is_a_column};
 
 use crate::aliases::WithAliases;
+use crate::column;
 use crate::levels::or;
 use crate::names::Columns;
 use aqe_rules::{AnalysisFault, Named, Typed};
@@ -41,6 +42,5 @@ pub fn value_with_aliases(
 pub fn is_column(tree: &OrTree) -> bool
     ensures { result ≡ is_a_column (alone_of tree.now) }
 {
-    let _ = tree;
-    false
+    column::or(tree)
 }
