@@ -1,5 +1,5 @@
 -- Loops over the operands of a chain: what they have come to, and what is left.
-use Rattle.std.proofs.Common.{◌≡◌, ◌≤◌, ◌<◌, ◌+◌, ℕ, suc, List, [], ◌∷◌, length, drop, get_or, add-one, drop-cons, ap, sym, subst, refl, ◌∙◌, Result}
+use Rattle.std.proofs.Common.{◌≡◌, ◌≤◌, ◌<◌, ◌+◌, ℕ, suc, List, [], ◌∷◌, length, drop, get_or, add-one, drop-cons, ap, sym, subst, refl, ◌∙◌, Result, Ok}
 use Rattle.std.specs.Prelude.{fold}
 use Rattle.std.proofs.lemmas.List.{drop_all}
 use Rattle.aqe_rules.specs.declared.fault.AnalysisFault.{AnalysisFault}
@@ -30,3 +30,6 @@ module _ {T : Type 0} (f : Outcome Typed → T → Outcome Typed) where
 -- what a call says is said of each equal outcome
 pub said : {T : Type 0} (r : Result T AnalysisFault) (o q : Outcome T) → o ≡ q → Says r q → Says r o
 said r o q e h = subst (λ (x : Outcome _). Says r x) (sym e) h
+
+pub given : {T : Type 0} (r v : T) {o : Outcome T} → o ≡ Ok v → r ≡ v → o ≡ Ok r
+given r v e h = e ∙ ap Ok (sym h)

@@ -68,10 +68,7 @@ values_of_arms arms place = each (map (λ arm. value_of_arm arm place) arms)
 abbrev pub value_if_any : Option OrTree → Place → Outcome (Option Typed)
 value_if_any tree place = if_any (option_map (λ t. value_of_or t place) tree)
 
--- a rule on what one operand, two and three come to
-abbrev pub on_one : (Typed → Outcome Typed) → Outcome Typed → Outcome Typed
-on_one rule a = upon a rule
-
+-- a rule on what two operands come to, and three
 abbrev pub on_two : (Typed → Typed → Outcome Typed) → Outcome Typed → Outcome Typed → Outcome Typed
 on_two rule a b = upon a (λ x. upon b (rule x))
 

@@ -63,7 +63,8 @@ fn value_named<'a>(name: &Text, item: &'a ItemTree) -> Option<&'a OrTree>
 /// What stands under the first alias that has the name, and the items behind it.
 fn first_named<'a>(name: &Text, list: &'a [ItemTree]) -> Option<(&'a OrTree, &'a [ItemTree])>
     ensures { MatchOption result (under_aliases name.now list.now ≡ [])
-        (λ found. under_aliases name.now list.now ≡ found.0.now ∷ under_aliases name.now found.1.now) }
+        (λ found. under_aliases name.now list.now
+        ≡ found.0.now ∷ under_aliases name.now found.1.now) }
 {
     let mut rest = list;
     'items: while let Some((item, more)) = rest.split_first() {

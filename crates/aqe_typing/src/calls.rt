@@ -82,7 +82,7 @@ fn function(alloc: Global, name: &Text, arguments: Vec<Typed>) -> Result<Typed, 
     Err(refused(alloc, AnalysisKind::NoSuchColumn, name.as_str()))
 }
 
-/// An aggregate call where none may stand: what is wrong with its argument, or that it stands there.
+/// An aggregate call where none may stand: its argument is wrong, or else its place.
 #[tactic(auto, using(crate::proofs::CallSteps::misplaced_steps))]
 fn misplaced(alloc: Global, name: &Text, fun: AggFun, argument: Typed) -> AnalysisFault
     ensures { Fails result (spec.misplaced name.now fun argument) }

@@ -19,8 +19,9 @@ pub(crate) fn case(
     arms: Result<Vec<(Typed, Typed)>, AnalysisFault>,
     otherwise: Result<Option<Typed>, AnalysisFault>,
 ) -> Result<Typed, AnalysisFault>
-    ensures { (o : Outcome (Option Typed)) (p : Outcome (List (Typed × Typed))) (q : Outcome (Option Typed))
-        → Says operand o → SaysAll arms p → Says otherwise q → Says result (spec.case o p q) }
+    ensures { (o : Outcome (Option Typed)) (p : Outcome (List (Typed × Typed)))
+        (q : Outcome (Option Typed)) → Says operand o → SaysAll arms p → Says otherwise q
+        → Says result (spec.case o p q) }
 {
     chosen(alloc, operand?, arms?, otherwise?)
 }

@@ -1,4 +1,6 @@
-//! Whether an expression is no more than a column, level by level: no operand beside the first, and no operator on it.
+//! Whether an expression is no more than a column, level by level.
+//!
+//! At each level it has one operand, and no operator on it.
 
 ghost use Rattle.std.specs.Prelude.{◌≡◌};
 ghost use Rattle.aqe_typing.specs.Columns.{is_column_of_or, is_column_of_and, is_column_of_not, is_column_of_predicate, is_column_of_comparison, is_column_of_sum, is_column_of_product, is_column_of_sign, is_column_of_primary};

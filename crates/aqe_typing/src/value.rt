@@ -15,7 +15,9 @@ use aqe_rules::{AnalysisFault, Named, Typed};
 use aqe_trees::{ItemTree, OrTree};
 use std::alloc::Global;
 
-/// What the expression means over the columns, where no alias may be used and no aggregate call may stand.
+/// What the expression means over the columns, or the first check that it fails.
+///
+/// No alias may be used there, and no aggregate call may stand.
 pub fn value_over(alloc: Global, tree: &OrTree, columns: &[Named]) -> Result<Typed, AnalysisFault>
     ensures { Says result (read tree.now (over columns.now)).value }
 {
@@ -23,6 +25,8 @@ pub fn value_over(alloc: Global, tree: &OrTree, columns: &[Named]) -> Result<Typ
 }
 
 /// What the expression means where a name that no column has may be an alias of the select list.
+///
+/// What stands under the alias is read over the columns alone.
 pub fn value_with_aliases(
     alloc: Global,
     tree: &OrTree,

@@ -16,7 +16,7 @@ use Rattle.aqe_rules.specs.Readings.{readings, within_call}
 use Rattle.aqe_rules.specs.Trees.{made_of_comparison}
 use Rattle.aqe_rules.specs.Faults.{Says, Fails}
 use Rattle.aqe_typing.specs.Values.{value_of_or, value_of_and, value_of_not, value_of_predicate, value_of_test, value_of_comparison, value_of_sum, value_of_product, value_of_sign, value_of_primary, value_of_arm, values_of, values_of_arms, value_if_any, on_two, on_three, SaysAll}
-use Rattle.aqe_typing.proofs.Turns.{begun, turned, ended, said}
+use Rattle.aqe_typing.proofs.Turns.{begun, turned, ended, said, given}
 use Rattle.aqe_typing.proofs.LevelValues.{or_step, and_step, comparison_step, sum_step, product_step, or_value, and_value, not_value, predicate_value, is_comparison, comparison_value, sum_value, product_value, sign_value, arm_value, plain_value, between_value, one_of_value, like_value, is_value, number_value, literal_value, boolean_value, null_value, column_value, table_column_value, paren_value, cast_value, case_value, count_all_value, call_value}
 use Rattle.aqe_typing.proofs.levels.+expression.Goals as goal
 
@@ -143,7 +143,7 @@ test-returns-in-Is g t c = λ a h.
 pub primary-returns-in-Number : goal.primary-returns-in-Number
 primary-returns-in-Number g t c =
     let p = within_call (g.N.Names.place c.args.names.now) in
-    ap (λ (tree : PrimaryTree). value_of_primary tree p) c.in-Number.is ∙ number_value p c.in-Number.negative c.in-Number.value c.in-Number.long ∙ ap Ok (sym c.number.ensures)
+    given c.number.result _ (ap (λ (tree : PrimaryTree). value_of_primary tree p) c.in-Number.is ∙ number_value p c.in-Number.negative c.in-Number.value c.in-Number.long) c.number.ensures
 
 pub primary-returns-in-Literal : goal.primary-returns-in-Literal
 primary-returns-in-Literal g t c =
@@ -153,12 +153,12 @@ primary-returns-in-Literal g t c =
 pub primary-returns-in-Boolean : goal.primary-returns-in-Boolean
 primary-returns-in-Boolean g t c =
     let p = within_call (g.N.Names.place c.args.names.now) in
-    ap (λ (tree : PrimaryTree). value_of_primary tree p) c.in-Boolean.is ∙ boolean_value p c.in-Boolean.value ∙ ap Ok (sym c.boolean.ensures)
+    given c.boolean.result _ (ap (λ (tree : PrimaryTree). value_of_primary tree p) c.in-Boolean.is ∙ boolean_value p c.in-Boolean.value) c.boolean.ensures
 
 pub primary-returns-in-Null : goal.primary-returns-in-Null
 primary-returns-in-Null g t c =
     let p = within_call (g.N.Names.place c.args.names.now) in
-    ap (λ (tree : PrimaryTree). value_of_primary tree p) c.in-Null.is ∙ null_value p ∙ ap Ok (sym c.null.ensures)
+    given c.null.result _ (ap (λ (tree : PrimaryTree). value_of_primary tree p) c.in-Null.is ∙ null_value p) c.null.ensures
 
 pub primary-returns-in-Column : goal.primary-returns-in-Column
 primary-returns-in-Column g t c =
