@@ -2,6 +2,12 @@
 #![tactic(auto)]
 
 mod analysis;
+mod limits;
+mod output_names;
+mod outputs;
+mod scope;
+mod select;
+mod source;
 
 pub use analysis::analyse;
 pub use aqe_rules::{
