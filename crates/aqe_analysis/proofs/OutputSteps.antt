@@ -55,11 +55,11 @@ module _ (has_from : Bool) (items : List Item) (place : Place) where
   items-behind before (item ∷ list) =
       elim (item_outputs as_it_is has_from items place (length before) item) as (λ o. fold (with_item has_from items place) (upon o (λ more. Ok (before ++ more))) list ≡
       upon (upon o (λ first. upon (outputs as_it_is has_from items place (length before + length first) list) (λ more. Ok (first ++ more)))) (λ more. Ok (before ++ more))) [
-        Ok first ↦
-          items-behind (before ++ first) list ∙
-          ap (λ n. upon (outputs as_it_is has_from items place n list) (λ more. Ok ((before ++ first) ++ more))) (length-append before first) ∙
-          put-behind before first (outputs as_it_is has_from items place (length before + length first) list)
-      | Err check ↦ refused-stays check list
+        | Ok first ↦
+            items-behind (before ++ first) list ∙
+            ap (λ n. upon (outputs as_it_is has_from items place n list) (λ more. Ok ((before ++ first) ++ more))) (length-append before first) ∙
+            put-behind before first (outputs as_it_is has_from items place (length before + length first) list)
+        | Err check ↦ refused-stays check list
       ]
 
   as-they-are : (o : Outcome (List Output)) → upon o (λ more. Ok ([] ++ more)) ≡ o

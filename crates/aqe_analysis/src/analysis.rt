@@ -38,11 +38,7 @@ pub fn analyse(
 
 /// The plan of a query, also of one in FROM.
 #[cycle(query)]
-fn whole(
-    alloc: Global,
-    query: &QueryTree,
-    catalog: &Catalog,
-) -> Result<Logical, AnalysisFault>
+fn whole(alloc: Global, query: &QueryTree, catalog: &Catalog) -> Result<Logical, AnalysisFault>
     requires { IsTrue (built.is_query_built query.now) }
     ensures { Says result (walk query.now (seen catalog.now)) }
 {
@@ -51,11 +47,7 @@ fn whole(
 
 /// The plan of what stands before ORDER BY, LIMIT and OFFSET.
 #[cycle(query)]
-fn union(
-    alloc: Global,
-    tree: &UnionTree,
-    catalog: &Catalog,
-) -> Result<Logical, AnalysisFault>
+fn union(alloc: Global, tree: &UnionTree, catalog: &Catalog) -> Result<Logical, AnalysisFault>
     requires { IsTrue (built.is_union_built tree.now) }
     ensures { Says result (made_of_union rules tree.now (seen catalog.now) []) }
 {
@@ -64,11 +56,7 @@ fn union(
 
 /// The plan of a SELECT, or of a query in parentheses.
 #[cycle(query)]
-fn core(
-    alloc: Global,
-    tree: &CoreTree,
-    catalog: &Catalog,
-) -> Result<Logical, AnalysisFault>
+fn core(alloc: Global, tree: &CoreTree, catalog: &Catalog) -> Result<Logical, AnalysisFault>
     requires { IsTrue (built.is_core_built tree.now) }
     ensures { Says result (made_of_core rules tree.now (seen catalog.now) []) }
 {
@@ -87,11 +75,7 @@ fn has_from(sources: &[JoinedTree]) -> bool
 
 /// The plan of a SELECT.
 #[cycle(query)]
-fn selected(
-    alloc: Global,
-    tree: &SelectTree,
-    catalog: &Catalog,
-) -> Result<Logical, AnalysisFault>
+fn selected(alloc: Global, tree: &SelectTree, catalog: &Catalog) -> Result<Logical, AnalysisFault>
     requires { IsTrue (built.is_select_built tree.now) }
     ensures { Says result (made_of_select rules tree.now (seen catalog.now) []) }
 {
@@ -102,11 +86,7 @@ fn selected(
 
 /// The plan of FROM; one row without columns where there is none.
 #[cycle(query)]
-fn from(
-    alloc: Global,
-    sources: &[JoinedTree],
-    catalog: &Catalog,
-) -> Result<FromPlan, AnalysisFault>
+fn from(alloc: Global, sources: &[JoinedTree], catalog: &Catalog) -> Result<FromPlan, AnalysisFault>
     requires { IsTrue (built.is_from_built (map built.is_joined_built sources.now)) }
     ensures { SaysSeen from_seen result (from_all (seen catalog.now) (map (made_of_joined rules) sources.now)) }
 {
@@ -118,11 +98,7 @@ fn from(
 
 /// The plan of a source.
 #[cycle(query)]
-fn source(
-    alloc: Global,
-    tree: &SourceTree,
-    catalog: &Catalog,
-) -> Result<FromPlan, AnalysisFault>
+fn source(alloc: Global, tree: &SourceTree, catalog: &Catalog) -> Result<FromPlan, AnalysisFault>
     requires { IsTrue (built.is_source_built tree.now) }
     ensures { SaysSeen from_seen result (made_of_source rules tree.now (seen catalog.now)) }
 {

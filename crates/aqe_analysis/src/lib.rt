@@ -8,6 +8,8 @@ mod outputs;
 mod scope;
 mod select;
 mod source;
+#[cfg(test)]
+mod tests;
 
 pub use analysis::analyse;
 pub use aqe_rules::{

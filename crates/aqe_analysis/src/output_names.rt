@@ -42,11 +42,7 @@ fn name_at(alloc: Global, columns: &[Named], place: usize) -> Result<Text, Analy
 
 /// The name of the column that the expression is; empty where it is none.
 #[tactic(auto, using(crate::proofs::NameSteps::name_steps))]
-fn name_of_column(
-    alloc: Global,
-    columns: &[Named],
-    expr: &Expr,
-) -> Result<Text, AnalysisFault>
+fn name_of_column(alloc: Global, columns: &[Named], expr: &Expr) -> Result<Text, AnalysisFault>
     ensures { Gives result (λ name. name ≡ spec.name_of_column columns.now expr.now) }
 {
     match expr {

@@ -76,11 +76,7 @@ fn column(alloc: Global, column: &Named) -> Result<OutputColumn, AnalysisFault>
 }
 
 /// Appends the columns of FROM.
-fn append_all(
-    alloc: Global,
-    outputs: &mut Outputs,
-    columns: &[Named],
-) -> Result<(), AnalysisFault>
+fn append_all(alloc: Global, outputs: &mut Outputs, columns: &[Named]) -> Result<(), AnalysisFault>
     ensures { Gives result (λ _. outputs_seen outputs.new ≡ outputs_seen outputs.old ++ map plain.column_shown columns.now) }
 {
     'columns: for next in columns {
@@ -127,11 +123,7 @@ fn expression(
 }
 
 /// `*`
-fn with_all(
-    alloc: Global,
-    shown: &Shown,
-    so_far: Outputs,
-) -> Result<Outputs, AnalysisFault>
+fn with_all(alloc: Global, shown: &Shown, so_far: Outputs) -> Result<Outputs, AnalysisFault>
     ensures { SaysSeen outputs_seen result (plain.with_all shown.now.has_from shown.now.columns (outputs_seen so_far)) }
 {
     if !shown.has_from {

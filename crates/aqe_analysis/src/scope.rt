@@ -42,12 +42,7 @@ pub(crate) fn copy_name(alloc: Global, name: &Option<Text>) -> Result<Option<Tex
 }
 
 /// The column at a place, as one of an item. Places above 4,294,967,295 find no memory.
-fn column(
-    alloc: Global,
-    item: &Option<Text>,
-    place: usize,
-    field: &Field,
-) -> Result<Named, Memory>
+fn column(alloc: Global, item: &Option<Text>, place: usize, field: &Field) -> Result<Named, Memory>
     ensures { IfOk result (λ c. c ≡ record { item = item.now; name = field.now.name; value = typed (Column place) field.now.kind }) }
 {
     let Ok(place) = u32::try_from(place) else {
@@ -78,10 +73,7 @@ fn append_columns(
 }
 
 /// The columns that FROM shows, from left to right.
-pub(crate) fn columns_of(
-    alloc: Global,
-    items: &[FromItem],
-) -> Result<Listing<Named>, AnalysisFault>
+pub(crate) fn columns_of(alloc: Global, items: &[FromItem]) -> Result<Listing<Named>, AnalysisFault>
     ensures { Gives result (λ all. all ≡ spec.columns_of (items_seen items.now)) }
 {
     let mut columns = Listing::new(alloc);

@@ -60,10 +60,7 @@ fn kept(
 }
 
 /// The expressions of output columns, and their fields.
-fn expressions(
-    alloc: Global,
-    outputs: Outputs,
-) -> Result<(Exprs, Schema), AnalysisFault>
+fn expressions(alloc: Global, outputs: Outputs) -> Result<(Exprs, Schema), AnalysisFault>
     ensures { Gives result (λ r. (r.0 ≡ plain.exprs_of (outputs_seen outputs)) × (r.1 ≡ fields_of (outputs_seen outputs))) }
 {
     let mut items = Exprs::new(alloc);
@@ -79,11 +76,7 @@ fn expressions(
 }
 
 /// The plan with the output columns alone.
-fn projected(
-    alloc: Global,
-    outputs: Outputs,
-    below: Logical,
-) -> Result<Logical, AnalysisFault>
+fn projected(alloc: Global, outputs: Outputs, below: Logical) -> Result<Logical, AnalysisFault>
     ensures { Gives result (λ p. p ≡ projected_to (outputs_seen outputs) below) }
 {
     let (items, schema) = expressions(alloc, outputs)?;
