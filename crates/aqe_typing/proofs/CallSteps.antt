@@ -83,6 +83,9 @@ module _ {Z : Type 0} (name : List ℕ) (b : Result (Vec Typed Z) AnalysisFault)
       rw (g, are) s
 
 pub ruleset argument_steps = (memory_fails, no_argument, several_arguments, only_argument)
+
 pub ruleset function_steps = (memory_fails, nothing_given, is_coalesce, is_length, is_no_function)
+
 pub ruleset misplaced_steps = (memory_fails, is_misplaced, is_mismatched)
+
 pub ruleset call_steps = (memory_fails, arguments_fail, aggregate_fails, aggregate_there, function_there)

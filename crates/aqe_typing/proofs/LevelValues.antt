@@ -229,5 +229,3 @@ call_value name arguments p = at (of_call readings name arguments) ∙ called_at
 pub is_read : (tree : OrTree) (p : Place) → value_of_or tree p ≡ (made_of readings tree p).value
 unfolding value_of_or
 is_read tree p = refl
-
-

@@ -34,12 +34,7 @@ impl<'a> Names for WithAliases<'a> {
         }
     }
 
-    fn column_of(
-        &self,
-        alloc: Global,
-        table: &Text,
-        name: &Text,
-    ) -> Result<Typed, AnalysisFault> {
+    fn column_of(&self, alloc: Global, table: &Text, name: &Text) -> Result<Typed, AnalysisFault> {
         column_of_item(alloc, table, name, self.columns)
     }
 }
@@ -60,13 +55,7 @@ fn value_named<'a>(name: &Text, item: &'a ItemTree) -> Option<&'a OrTree>
         ItemTree::One {
             value,
             alias: Some(own),
-        } => {
-            if alike(own, name) {
-                Some(value)
-            } else {
-                None
-            }
-        }
+        } => { if alike(own, name) { Some(value) } else { None } }
         _ => None,
     }
 }

@@ -44,11 +44,7 @@ fn takes(fun: AggFun, kind: SqlType) -> bool
 
 /// The argument, where it is the only one.
 #[tactic(auto, using(crate::proofs::CallSteps::argument_steps))]
-fn the_argument(
-    alloc: Global,
-    name: &Text,
-    arguments: Vec<Typed>,
-) -> Result<Typed, AnalysisFault>
+fn the_argument(alloc: Global, name: &Text, arguments: Vec<Typed>) -> Result<Typed, AnalysisFault>
     ensures { Says result (readings.the_argument name.now arguments.items) }
 {
     let mut arguments = arguments;
@@ -63,11 +59,7 @@ fn the_argument(
 
 /// `length(..)`
 #[tactic(auto, using(crate::proofs::StepLemmas::steps))]
-fn length_call(
-    alloc: Global,
-    name: &Text,
-    arguments: Vec<Typed>,
-) -> Result<Typed, AnalysisFault>
+fn length_call(alloc: Global, name: &Text, arguments: Vec<Typed>) -> Result<Typed, AnalysisFault>
     ensures { Says result (spec.length_call name.now arguments.items) }
 {
     length_of(alloc, the_argument(alloc, name, arguments)?)
@@ -92,12 +84,7 @@ fn function(alloc: Global, name: &Text, arguments: Vec<Typed>) -> Result<Typed, 
 
 /// An aggregate call where none may stand: what is wrong with its argument, or that it stands there.
 #[tactic(auto, using(crate::proofs::CallSteps::misplaced_steps))]
-fn misplaced(
-    alloc: Global,
-    name: &Text,
-    fun: AggFun,
-    argument: Typed,
-) -> AnalysisFault
+fn misplaced(alloc: Global, name: &Text, fun: AggFun, argument: Typed) -> AnalysisFault
     ensures { Fails result (spec.misplaced name.now fun argument) }
 {
     if !takes(fun, argument.kind) {

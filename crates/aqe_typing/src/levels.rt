@@ -29,11 +29,7 @@ use std::alloc::Global;
 
 /// Operands of OR.
 #[cycle(expression)]
-pub(crate) fn or<N: Names>(
-    alloc: Global,
-    tree: &OrTree,
-    names: &N,
-) -> Result<Typed, AnalysisFault>
+pub(crate) fn or<N: Names>(alloc: Global, tree: &OrTree, names: &N) -> Result<Typed, AnalysisFault>
     ensures { Says result (value_of_or tree.now (within_call (N.place names.now))) }
 {
     let (first, rest) = or_parts(tree);
@@ -179,11 +175,7 @@ fn sign<N: Names>(alloc: Global, tree: &SignTree, names: &N) -> Result<Typed, An
 
 /// An operand without an operator outside of parentheses.
 #[cycle(expression)]
-fn primary<N: Names>(
-    alloc: Global,
-    tree: &PrimaryTree,
-    names: &N,
-) -> Result<Typed, AnalysisFault>
+fn primary<N: Names>(alloc: Global, tree: &PrimaryTree, names: &N) -> Result<Typed, AnalysisFault>
     ensures { Says result (value_of_primary tree.now (within_call (N.place names.now))) }
 {
     match tree {
@@ -248,11 +240,7 @@ fn arms_of<N: Names>(
 
 /// An arm of a CASE.
 #[cycle(expression)]
-fn arm<N: Names>(
-    alloc: Global,
-    tree: &Arm,
-    names: &N,
-) -> Result<(Typed, Typed), AnalysisFault>
+fn arm<N: Names>(alloc: Global, tree: &Arm, names: &N) -> Result<(Typed, Typed), AnalysisFault>
     ensures { Says result (value_of_arm tree.now (within_call (N.place names.now))) }
 {
     let (when, gives) = arm_parts(tree);

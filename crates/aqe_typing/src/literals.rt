@@ -14,9 +14,17 @@ fn nearest(negative: bool, value: u64) -> i64
     ensures { result ≡ operation.nearest negative value }
 {
     if !negative {
-        return if value > 9_223_372_036_854_775_807 { i64::MAX } else { value as i64 };
+        return if value > 9_223_372_036_854_775_807 {
+            i64::MAX
+        } else {
+            value as i64
+        };
     }
-    if value > 9_223_372_036_854_775_807 { i64::MIN } else { -(value as i64) }
+    if value > 9_223_372_036_854_775_807 {
+        i64::MIN
+    } else {
+        -(value as i64)
+    }
 }
 
 /// A number: INT where its value fits and no letter makes it BIGINT.

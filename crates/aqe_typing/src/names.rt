@@ -19,12 +19,7 @@ pub(crate) trait Names {
         ensures { Says result (column_named name.now (within_call (place self.now))) };
 
     /// What `table.name` means.
-    fn column_of(
-        &self,
-        alloc: Global,
-        table: &Text,
-        name: &Text,
-    ) -> Result<Typed, AnalysisFault>
+    fn column_of(&self, alloc: Global, table: &Text, name: &Text) -> Result<Typed, AnalysisFault>
         ensures { Says result (column_of_item table.now name.now (within_call (place self.now))) };
 }
 
@@ -41,12 +36,7 @@ impl<'a> Names for Columns<'a> {
         aqe_rules::column_named(alloc, name, self.columns)
     }
 
-    fn column_of(
-        &self,
-        alloc: Global,
-        table: &Text,
-        name: &Text,
-    ) -> Result<Typed, AnalysisFault> {
+    fn column_of(&self, alloc: Global, table: &Text, name: &Text) -> Result<Typed, AnalysisFault> {
         aqe_rules::column_of_item(alloc, table, name, self.columns)
     }
 }

@@ -16,11 +16,7 @@ use aqe_trees::{ItemTree, OrTree};
 use std::alloc::Global;
 
 /// What the expression means over the columns, where no alias may be used and no aggregate call may stand.
-pub fn value_over(
-    alloc: Global,
-    tree: &OrTree,
-    columns: &[Named],
-) -> Result<Typed, AnalysisFault>
+pub fn value_over(alloc: Global, tree: &OrTree, columns: &[Named]) -> Result<Typed, AnalysisFault>
     ensures { Says result (read tree.now (over columns.now)).value }
 {
     or(alloc, tree, &Columns { columns })
