@@ -2,7 +2,7 @@
 use Rattle.std.proofs.Common.{ℕ, ◌≡◌, Bool, true, false, not, List, [], ◌∷◌, map, Option, Some, None, refl, ap, sym, ◌∙◌}
 use Rattle.std.specs.Prelude.{◌&&◌, ◌||◌}
 use Rattle.std.specs.List.{list_all, list_any}
-use Rattle.std.specs.Option.{is_some, option_map_or}
+use Rattle.std.specs.Option.{is_some}
 use Rattle.aqe_trees.specs.declared.expression.OrTree.{OrTree}
 use Rattle.aqe_trees.specs.declared.query.QueryTree.{QueryTree}
 use Rattle.aqe_trees.specs.declared.query.UnionTree.{UnionTree}

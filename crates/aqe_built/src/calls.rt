@@ -1,6 +1,6 @@
 //! Whether an expression calls an aggregate function.
 //!
-//! Each function here answers for its part of a tree, and looks no further once it has found a call.
+//! Each function here answers for its part of a tree, and looks no further than the first call.
 
 ghost use Rattle.std.specs.Prelude.{◌≡◌, ◌||◌, false, map, option_map};
 ghost use Rattle.std.specs.List.{list_any};

@@ -22,5 +22,3 @@ pub loaded-over : (slots : Slots) (n : ℕ) (p : Logical) → IsOver n p → IsL
 loaded-over slots n p over loaded =
     subst (λ (ns : List ℕ). All (λ (m : ℕ). IsLoaded slots m) ns) (sym over.2)
     (All-cons (λ (m : ℕ). IsLoaded slots m) n [] loaded (All-nil (λ (m : ℕ). IsLoaded slots m)))
-
-pub ruleset over = (over-filter, over-project, loaded-over)

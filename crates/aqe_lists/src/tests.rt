@@ -1,7 +1,7 @@
 //! What no clause says: worked plans over a small table, and that calls succeed with ample memory.
 
-ghost use Rattle.std.specs.Prelude.{◌≤◌, length, IfOk};
-ghost use Rattle.aqe_values.specs.Bounds.{row_limit};
+ghost use Rattle.std.specs.Prelude.{◌<◌, ◌≤◌, length, IfOk};
+ghost use Rattle.aqe_values.specs.Bounds.{row_limit, text_limit};
 ghost use Rattle.aqe_tables.specs.Loaded.{IsLoaded};
 ghost use Rattle.aqe_lists.specs.OneTable.{IsOver};
 
@@ -16,22 +16,53 @@ use aqe_values::{Row, Rows, Schema, SqlType, Text, Value};
 use std::alloc::Global;
 use std::test::Fail;
 
-/// The table `t` of the columns `a INT` and `b STRING`, over the folder `t`.
-fn form_of(alloc: Global) -> Result<TableForm, Fail> {
+fn push_column(
+    alloc: Global,
+    columns: &mut ColumnForms,
+    name: &str,
+    kind: SqlType,
+) -> Result<(), Fail>
+    requires { length name.now ≤ text_limit }
+{
+    let name = Text::copy_of(alloc, name)?;
+    columns.push((name, kind))?;
+    Ok(())
+}
+
+/// `a INT` and `b STRING`
+fn columns_of(alloc: Global) -> Result<ColumnForms, Fail> {
     let mut columns = ColumnForms::new(alloc);
-    columns.push((Text::copy_of(alloc, "a")?, SqlType::Int))?;
-    columns.push((Text::copy_of(alloc, "b")?, SqlType::Text))?;
+    push_column(alloc, &mut columns, "a", SqlType::Int)?;
+    push_column(alloc, &mut columns, "b", SqlType::Text)?;
+    Ok(columns)
+}
+
+/// The table `t` over the folder `t`.
+fn form_of(alloc: Global) -> Result<TableForm, Fail> {
+    let columns = columns_of(alloc)?;
+    let name = Text::copy_of(alloc, "t")?;
+    let location = Text::copy_of(alloc, "t")?;
     Ok(TableForm {
-        name: Text::copy_of(alloc, "t")?,
+        name,
         columns,
         options: OptionForms::new(alloc),
-        location: Text::copy_of(alloc, "t")?,
+        location,
     })
+}
+
+fn catalog_of(alloc: Global) -> Result<Catalog, Fail>
+    ensures { IfOk result (λ catalog. 0 < length catalog) }
+{
+    let form = form_of(alloc)?;
+    let mut catalog = Catalog::new(alloc);
+    catalog.create(&form)?;
+    Ok(catalog)
 }
 
 fn push_file(alloc: Global, files: &mut Files, path: &str, text: &str) -> Result<(), Fail> {
     let bytes = Bytes::from_vec(Vec::from_slice(alloc, text.as_bytes())?);
-    files.push((Name::copy_of(alloc, path)?, bytes))?;
+    let name = Name::copy_of(alloc, path)?;
+    files.push((name, bytes))?;
     Ok(())
 }
 
@@ -47,10 +78,9 @@ fn files_of(alloc: Global) -> Result<Files, Fail> {
 fn loaded(alloc: Global) -> Result<Tables, Fail>
     ensures { IfOk result (λ tables. IsLoaded tables 0) }
 {
-    let form = form_of(alloc)?;
-    let mut catalog = Catalog::new(alloc);
-    catalog.create(&form)?;
-    let mut store = SteadyStore::new(alloc, files_of(alloc)?);
+    let catalog = catalog_of(alloc)?;
+    let files = files_of(alloc)?;
+    let mut store = SteadyStore::new(alloc, files);
     let mut tables = Tables::new(alloc);
     tables.load(&mut store, &catalog, 0)?;
     Ok(tables)
@@ -65,7 +95,6 @@ fn scan(alloc: Global) -> Logical
     }
 }
 
-#[tactic(auto, using(crate::proofs::OneTable::over))]
 fn filter(alloc: Global, condition: Expr, child: Logical) -> Result<Logical, Fail>
     requires { IsOver 0 child }
     ensures { IfOk result (λ plan. IsOver 0 plan) }
@@ -74,7 +103,6 @@ fn filter(alloc: Global, condition: Expr, child: Logical) -> Result<Logical, Fai
     Ok(plan)
 }
 
-#[tactic(auto, using(crate::proofs::OneTable::over))]
 fn project(alloc: Global, items: Exprs, child: Logical) -> Result<Logical, Fail>
     requires few { length items ≤ row_limit }
     requires over { IsOver 0 child }
@@ -127,7 +155,6 @@ fn shown(alloc: Global, rows: &Rows) -> Result<String, Fail> {
 }
 
 /// The rows of a plan over `t`.
-#[tactic(auto, using(crate::proofs::OneTable::over))]
 fn answer(alloc: Global, plan: &Logical) -> Result<String, Fail>
     requires { IsOver 0 plan.now }
 {
@@ -136,30 +163,68 @@ fn answer(alloc: Global, plan: &Logical) -> Result<String, Fail>
     shown(alloc, &rows)
 }
 
+/// The rows of `t` with `a > 1`.
+fn kept_rows(alloc: Global) -> Result<Logical, Fail>
+    ensures { IfOk result (λ plan. IsOver 0 plan) }
+{
+    let condition = above_one(alloc)?;
+    let plan = filter(alloc, condition, scan(alloc))?;
+    Ok(plan)
+}
+
+/// `b, a` of the rows of a plan.
+fn turned_rows(alloc: Global, child: Logical) -> Result<Logical, Fail>
+    requires { IsOver 0 child }
+    ensures { IfOk result (λ plan. IsOver 0 plan) }
+{
+    let items = turned(alloc)?;
+    let plan = project(alloc, items, child)?;
+    Ok(plan)
+}
+
+/// The rows of a plan over `t`, which goes here.
+fn answered(alloc: Global, plan: Logical) -> Result<String, Fail>
+    requires { IsOver 0 plan }
+{
+    answer(alloc, &plan)
+}
+
 #[test]
 fn a_filter_keeps_some(rt: HostRuntime) -> Result<(), Fail> {
     let alloc = rt.alloc();
-    let plan = filter(alloc, above_one(alloc)?, scan(alloc))?;
-    assert_eq!(rt; answer(alloc, &plan)?.as_str(), "2 x.3 y.");
+    let plan = kept_rows(alloc)?;
+    let text = answered(alloc, plan)?;
+    assert_eq!(rt; text.as_str(), "2 x.3 y.");
     Ok(())
 }
 
 #[test]
 fn a_project_over_a_filter(rt: HostRuntime) -> Result<(), Fail> {
     let alloc = rt.alloc();
-    let kept = filter(alloc, above_one(alloc)?, scan(alloc))?;
-    let plan = project(alloc, turned(alloc)?, kept)?;
-    assert_eq!(rt; answer(alloc, &plan)?.as_str(), "x2 .y3 .");
+    let kept = kept_rows(alloc)?;
+    let plan = turned_rows(alloc, kept)?;
+    let text = answered(alloc, plan)?;
+    assert_eq!(rt; text.as_str(), "x2 .y3 .");
     Ok(())
+}
+
+/// The rows of a plan whose second column is NULL.
+fn null_rows(alloc: Global, child: Logical) -> Result<Logical, Fail>
+    requires { IsOver 0 child }
+    ensures { IfOk result (λ plan. IsOver 0 plan) }
+{
+    let is_null = Expr::unary(alloc, UnaryOp::IsNull, Expr::Column(1))?;
+    let plan = filter(alloc, is_null, child)?;
+    Ok(plan)
 }
 
 #[test]
 fn a_filter_over_a_project(rt: HostRuntime) -> Result<(), Fail> {
     let alloc = rt.alloc();
-    let made = project(alloc, turned(alloc)?, scan(alloc))?;
-    let is_null = Expr::unary(alloc, UnaryOp::IsNull, Expr::Column(1))?;
-    let plan = filter(alloc, is_null, made)?;
-    assert_eq!(rt; answer(alloc, &plan)?.as_str(), "z-.");
+    let made = turned_rows(alloc, scan(alloc))?;
+    let plan = null_rows(alloc, made)?;
+    let text = answered(alloc, plan)?;
+    assert_eq!(rt; text.as_str(), "z-.");
     Ok(())
 }
 
@@ -172,11 +237,18 @@ fn one_row_without_values(rt: HostRuntime) -> Result<(), Fail> {
     Ok(())
 }
 
+/// The scans of a plan, which goes here.
+fn scanned(alloc: Global, plan: Logical) -> Result<Vec<u32>, Fail> {
+    let found = scans(alloc, &plan)?;
+    Ok(found)
+}
+
 #[test]
 fn a_union_scans_both_sides(rt: HostRuntime) -> Result<(), Fail> {
     let alloc = rt.alloc();
     let plan = Logical::union(alloc, scan(alloc), scan(alloc))?;
     assert!(rt; !is_of_one_source(&plan));
-    assert_eq!(rt; scans(alloc, &plan)?.as_slice(), [0, 0].as_slice());
+    let found = scanned(alloc, plan)?;
+    assert_eq!(rt; found.as_slice(), [0, 0].as_slice());
     Ok(())
 }
