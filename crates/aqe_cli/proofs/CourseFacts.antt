@@ -1,5 +1,5 @@
 -- One statement more, and how a script ends early.
-use Rattle.std.proofs.Common.{◌≡◌, ◌⊎◌, inl, inr, ℕ, List, [], ◌∷◌, ◌++◌, Option, refl, sym, ap, subst, ◌∙◌}
+use Rattle.std.proofs.Common.{◌≡◌, ◌⊎◌, inl, inr, ℕ, List, [], ◌∷◌, ◌++◌, Option, refl, sym, subst}
 use Rattle.std.proofs.lemmas.List.{append-nil, append_assoc}
 use Rattle.aqe_base.specs.declared.status.Status.{Status}
 use Rattle.aqe_base.specs.declared.status.Status.TheVariants as status
@@ -7,7 +7,7 @@ use Rattle.aqe_store.specs.Files.{Entries}
 use Rattle.aqe_trees.specs.declared.statement.Stmt.{Stmt}
 use Rattle.aqe_cli.specs.Course.{Stand, nothing, Query, IsCarriedOut, IsRefusedStatement, Runs}
 use Rattle.aqe_cli.specs.Course.Runs.{none, more}
-use Rattle.aqe_cli.specs.Run.{IsExcuse, IsWriteExcuse, Writes}
+use Rattle.aqe_cli.specs.Run.{IsWriteExcuse}
 use Rattle.aqe_cli.specs.Steps.{IsWritten, IsHalfWritten, IsCarriedTo, EndsEarly}
 use Rattle.aqe_cli.specs.Steps.EndsEarly.{refused, excused, unwritten}
 use Rattle.aqe_cli.proofs.Writing.{writes_none, writes_then, front_then}

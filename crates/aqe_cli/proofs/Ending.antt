@@ -1,14 +1,13 @@
 -- How a run ends, from how its script does.
-use Rattle.std.proofs.Common.{◌≡◌, ◌⊎◌, inl, inr, ℕ, Bool, true, false, IsTrue, List, [], ◌∷◌, ◌++◌, Option, Some, None, refl, sym, ap, subst, ◌∙◌}
+use Rattle.std.proofs.Common.{◌≡◌, ◌⊎◌, inl, inr, ℕ, IsTrue, List, [], ◌∷◌, ◌++◌, Option, sym, subst, ◌∙◌}
 use Rattle.aqe_base.specs.declared.status.Status.{Status}
 use Rattle.aqe_base.specs.declared.status.Status.TheVariants as status
 use Rattle.aqe_store.specs.Files.{Entries}
-use Rattle.aqe_store.specs.Told.{WhereTold}
 use Rattle.aqe_store.specs.Causes.{Rose}
 use Rattle.aqe_trees.specs.declared.statement.Stmt.{Stmt}
 use Rattle.aqe_cli.specs.Course.{Stand, Query}
 use Rattle.aqe_cli.specs.Opening.{IsOpened, IsNotOpened}
-use Rattle.aqe_cli.specs.Run.{ComesTo, IsAccepted, IsDone, IsExcuse, IsRefused, IsWriteExcuse, RefusesBehind, Writes, WritesFront, is_answer, is_refusal}
+use Rattle.aqe_cli.specs.Run.{ComesTo, IsAccepted, IsDone, IsExcuse, IsRefused, IsWriteExcuse, RefusesBehind, Writes, WritesFront, is_refusal}
 use Rattle.aqe_cli.specs.Run.ComesTo.{nowhere, so_far}
 use Rattle.aqe_cli.specs.Run.IsRefused.{at_once, on_the_way}
 use Rattle.aqe_cli.specs.Steps.{IsCarriedTo, EndsEarly, Ends}

@@ -1,13 +1,11 @@
 -- A run has one course.
-use Rattle.std.proofs.Common.{◌≡◌, ◌⊎◌, inl, inr, ℕ, Bool, true, false, IsTrue, List, [], ◌∷◌, ◌++◌, Option, Some, None, Result, Ok, Err, refl, sym, ap, subst, ◌∙◌, codes, arith, ◌<◌}
+use Rattle.std.proofs.Common.{◌≡◌, inl, inr, ℕ, true, false, List, [], ◌∷◌, Option, Some, None, Ok, Err, refl, sym, ap, subst, ◌∙◌, codes, arith, ◌<◌}
 use Rattle.std.specs.Prelude.{IsFalse, IsSome, IsSomeAnd, length}
 use Rattle.aqe_base.specs.declared.status.Status.{Status}
-use Rattle.aqe_base.specs.declared.status.Status.TheVariants as status
 use Rattle.aqe_values.specs.Bounds.{text_limit}
 use Rattle.aqe_store.specs.Files.{Entries, IsHeld, content_of}
 use Rattle.aqe_store.specs.Reading.{IsLonger}
 use Rattle.aqe_lexer.specs.declared.token.Token.{Token}
-use Rattle.aqe_lexer.specs.TokenList.{IsTokenList}
 use Rattle.aqe_lexer.proofs.Once.{one_list, no_list, one_fault}
 use Rattle.aqe_logical.specs.declared.plan.Logical.{Logical}
 use Rattle.aqe_trees.specs.declared.query.QueryTree.{QueryTree}
@@ -27,7 +25,7 @@ use Rattle.aqe_built.specs.Built.{is_script_built}
 use Rattle.aqe_lists.specs.Forms.{scans}
 use Rattle.aqe_cli.specs.Words.{RunsScript}
 use Rattle.aqe_cli.specs.Loading.{AreLoaded, IsStopped}
-use Rattle.aqe_cli.specs.Course.{Stand, nothing, Query, IsCarriedOut, IsRefusedStatement, IsAnswered, IsNotAnalysed, IsNotLoaded, Runs, of_create, of_check, of_load, of_fault}
+use Rattle.aqe_cli.specs.Course.{Stand, nothing, Query, IsCarriedOut, IsRefusedStatement, Runs, of_create, of_check, of_load}
 use Rattle.aqe_cli.specs.Course.Runs.{none, more}
 use Rattle.aqe_cli.specs.Opening.{IsSource, IsRefusedSource, HasSource, IsOpened, IsNotOpened, of_lex}
 use Rattle.aqe_cli.specs.Opening.IsRefusedSource.{no_tokens, no_sentence, too_deep, not_built}

@@ -1,7 +1,8 @@
 -- The loading of tables comes to one end, whatever slots the tables stand in.
-use Rattle.std.proofs.Common.{◌≡◌, ◌≢◌, ◌⊎◌, inl, inr, ℕ, zero, suc, ◌+◌, ◌==◌, Bool, true, false, IsTrue, List, [], ◌∷◌, Option, Some, None, refl, sym, ap, subst, ◌∙◌, arith}
-use Rattle.std.specs.Prelude.{IsFalse, slice_get, IsSome}
+use Rattle.std.proofs.Common.{◌≡◌, ◌≢◌, ◌⊎◌, inl, inr, ℕ, suc, ◌+◌, ◌==◌, Bool, true, false, IsTrue, List, [], ◌∷◌, Option, Some, None, refl, sym, ap, subst, ◌∙◌, arith}
+use Rattle.std.specs.Prelude.{IsSome}
 use Rattle.std.proofs.lemmas.Bool.Decides.{Decides-eqb}
+use Rattle.std.proofs.lemmas.List.Sums.{sum_by-cons}
 use Rattle.aqe_store.specs.Files.{Entries}
 use Rattle.aqe_tables.specs.declared.catalog.CatalogTable.{CatalogTable}
 use Rattle.aqe_tables.specs.declared.fault.LoadFault.{LoadFault}
@@ -21,7 +22,7 @@ pub alike_back : (s t : Slots) → Alike s t → Alike t s
 alike_back s t h n = sym (h n)
 
 first_bytes : (x : Option Table) (s : Slots) → all_bytes (x ∷ s) ≡ slot_bytes x + all_bytes s
-first_bytes x s = refl
+first_bytes x s = sum_by-cons slot_bytes x s
 
 bytes_alike : (s t : Slots) → Alike s t → all_bytes s ≡ all_bytes t
 bytes_alike [] [] h = refl

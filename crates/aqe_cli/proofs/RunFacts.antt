@@ -1,5 +1,5 @@
 -- The steps of a run put together, over the files that its store tells.
-use Rattle.std.proofs.Common.{◌≡◌, ◌⊎◌, inl, inr, ℕ, ◌≤◌, ◌<◌, ◌+◌, List, [], ◌∷◌, ◌++◌, length, map, IsTrue, Option, Some, None, Result, Ok, Err, refl, sym, ap, subst, arith, ◌∙◌}
+use Rattle.std.proofs.Common.{◌≡◌, ◌⊎◌, inl, inr, ℕ, ◌≤◌, ◌<◌, List, [], ◌∷◌, ◌++◌, length, IsTrue, Option, Some, None, Result, Ok, Err, refl, sym, subst, arith}
 use Rattle.std.specs.Prelude.{All, IfOk, IfErr, OnOk}
 use Rattle.std.specs.Io.KnownBytes.{Appends}
 use Rattle.std.proofs.lemmas.List.{length-map}
@@ -7,6 +7,7 @@ use Rattle.std.proofs.lemmas.List.Elements.{All-weaker}
 use Rattle.aqe_base.specs.declared.status.Status.{Status}
 use Rattle.aqe_base.specs.declared.status.Status.TheVariants as status
 use Rattle.aqe_values.specs.Bounds.{text_limit}
+use Rattle.aqe_values.specs.declared.schema.Field.{Field}
 use Rattle.aqe_store.specs.Files.{Entries, content_of}
 use Rattle.aqe_store.specs.Told.{KeepsFiles, WhereTold}
 use Rattle.aqe_store.specs.Causes.{Rose}
@@ -30,7 +31,7 @@ use Rattle.aqe_cli.specs.Opening.{IsSource, IsRefusedSource, IsOpened, IsNotOpen
 use Rattle.aqe_cli.specs.Opening.IsNotOpened.{missing, too_long, refused}
 use Rattle.aqe_cli.specs.Run.{ComesTo, IsAccepted, IsDone, IsExcuse, IsRefused, IsTextOf, IsWriteExcuse, RefusesBehind, Writes, WritesFront, is_refusal}
 use Rattle.aqe_cli.specs.Steps.{AreRefused, IsNotRead, IsQueried, IsWritten, IsHalfWritten, IsCarriedTo, EndsEarly, Ends}
-use Rattle.aqe_cli.proofs.Told.{told_before, told_one, told_then}
+use Rattle.aqe_cli.proofs.Told.{told_one, told_then}
 use Rattle.aqe_cli.proofs.Writing.{writes_none, writes_one}
 use Rattle.aqe_cli.proofs.OneSource.{one_source, scans_within}
 use Rattle.aqe_cli.proofs.ScriptFacts.{few_statements}
@@ -81,7 +82,8 @@ plan_narrow tree catalog plan h = narrow plan (well_formed tree (seen catalog) p
 
 pub plan_within : (tree : QueryTree) (catalog : List CatalogTable) (plan : Logical) → Analysed tree (seen catalog) plan → All (λ n. n < length catalog) (scans plan)
 plan_within tree catalog plan h =
-    All-weaker (λ n. n < length (seen catalog)) (λ n. n < length catalog) (λ n p. omega (arith, p, length-map catalog (λ t. (t.name, t.form.schema)))) (scans plan) (scans_within tree (seen catalog) plan h)
+    let same : length (seen catalog) ≡ length catalog = length-map {B = List ℕ × List Field} catalog (λ t. (t.name, t.form.schema)) in
+    All-weaker (λ n. n < length (seen catalog)) (λ n. n < length catalog) (λ n p. omega (arith, p, same)) (scans plan) (scans_within tree (seen catalog) plan h)
 
 -- a query that is analysed, and whose tables are loaded
 pub queried : (told : Option Entries) (now next : Stand) (tree : QueryTree) (plan : Logical) (r : Result (List ℕ) Status) → Analysed tree (seen now.catalog) plan

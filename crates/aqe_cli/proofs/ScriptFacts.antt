@@ -1,6 +1,6 @@
 -- The statements of a script, over the files that the store tells.
-use Rattle.std.proofs.Common.{◌≡◌, ◌⊎◌, inl, inr, ℕ, suc, ◌+◌, ◌<◌, ◌≤◌, ◌-◌, ◌^◌, Bool, true, false, ◌&&◌, IsTrue, List, [], ◌∷◌, length, Option, Some, None, refl, sym, ap, subst, arith, ◌∙◌}
-use Rattle.std.specs.List.{slice_split, list_all, count_by}
+use Rattle.std.proofs.Common.{◌≡◌, ◌⊎◌, inl, inr, ℕ, ◌+◌, ◌≤◌, Bool, true, false, ◌&&◌, IsTrue, List, [], ◌∷◌, length, Option, Some, None, refl, sym, ap, subst, arith, ◌∙◌}
+use Rattle.std.specs.List.{count_by}
 use Rattle.std.proofs.lemmas.List.Splits.{length-slice_split}
 use Rattle.std.proofs.lemmas.List.Sums.{count_by-le-length}
 use Rattle.std.specs.Prelude.{All}
@@ -11,15 +11,14 @@ use Rattle.aqe_store.specs.Files.{Entries}
 use Rattle.aqe_store.specs.Told.{KeepsFiles, WhereTold}
 use Rattle.aqe_lexer.specs.declared.token.Token.{Token}
 use Rattle.aqe_lexer.specs.Spans.{StandsIn, InOrder}
-use Rattle.aqe_lexer.specs.TokenList.{IsTokenList}
 use Rattle.aqe_lexer.proofs.Stands as stands
 use Rattle.aqe_trees.specs.declared.statement.Stmt.{Stmt}
-use Rattle.aqe_script.specs.Statements.{IsScript, AreStatements, is_semicolon, parts_of}
+use Rattle.aqe_script.specs.Statements.{AreStatements, is_semicolon, parts_of}
 use Rattle.aqe_script.specs.Statements.AreStatements.{finished, nothing as no_statement, statement as a_statement}
 use Rattle.aqe_built.specs.Built.{is_script_built, is_statement_built}
-use Rattle.aqe_cli.specs.Course.{Stand, nothing, IsCarriedOut, IsRefusedStatement}
+use Rattle.aqe_cli.specs.Course.{Stand, nothing, IsRefusedStatement}
 use Rattle.aqe_cli.specs.Opening.{IsSource}
-use Rattle.aqe_cli.specs.Run.{IsExcuse, IsWriteExcuse}
+use Rattle.aqe_cli.specs.Run.{IsWriteExcuse}
 use Rattle.aqe_cli.specs.Steps.{IsWritten, IsHalfWritten, IsCarriedTo, EndsEarly}
 use Rattle.aqe_cli.proofs.Told.{told_all, told_then, told_before}
 use Rattle.aqe_cli.proofs.CourseFacts.{begun, carried_on, stopped}

@@ -1,5 +1,5 @@
 -- Rows that are printed alike are the same rows.
-use Rattle.std.proofs.Common.{◌≡◌, ℕ, suc, ◌+◌, ◌<◌, ◌≤◌, List, [], ◌∷◌, ◌++◌, length, refl, ap, subst, sym, arith, ◌∙◌, Bool, true, false, not, ◌==◌, ◌&&◌, ◌||◌, Contains, codes, IsTrue, append_assoc, map, get_or, ℤ, pos, negsuc, ◌^◌}
+use Rattle.std.proofs.Common.{◌≡◌, ℕ, suc, ◌<◌, List, [], ◌∷◌, ◌++◌, refl, ap, subst, sym, arith, ◌∙◌, Bool, true, false, not, ◌==◌, ◌&&◌, ◌||◌, Contains, codes, append_assoc, map, get_or, ℤ, pos, negsuc, ◌^◌}
 use Rattle.std.specs.Prelude.{if◌then◌else◌, nat_lt, FitsSigned}
 use Rattle.std.specs.Int.{w32, w64}
 use Rattle.std.specs.Char.{digit_value}
@@ -12,13 +12,11 @@ use Rattle.std.proofs.lemmas.Bool.Decides.{Decides-eqb}
 use Rattle.std.proofs.lemmas.Fmt.{decimal_is_IsNumeral, signed_decimal_injective}
 use Rattle.std.proofs.lemmas.List.{append_cancel_left}
 use Rattle.std.proofs.lemmas.List.Folds.{list_all-append}
-use Rattle.std.proofs.lemmas.List.Elements.{Contains-append_cases}
 use Rattle.aqe_values.specs.declared.schema.Field.{Field}
 use Rattle.aqe_values.specs.declared.sql_type.SqlType.{SqlType}
-use Rattle.aqe_values.specs.declared.sql_type.SqlType.TheVariants as type
 use Rattle.aqe_values.specs.declared.value.Value.{Value}
 use Rattle.aqe_values.specs.declared.value.Value.TheVariants as value
-use Rattle.aqe_cli.specs.ResultText.{AreRowsOf, IsOfType, IsRowOf, TextsTellRows, escaped, escaped_byte, header_text, result_text, row_text, value_text}
+use Rattle.aqe_cli.specs.ResultText.{AreRowsOf, IsOfType, IsRowOf, TextsTellRows, escaped, escaped_byte, header_text, row_text, value_text}
 use Rattle.aqe_cli.proofs.Cutting.{both, contains_middle, cut_once, lacks}
 
 -- what a character behind a backslash stands for

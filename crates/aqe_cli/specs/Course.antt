@@ -1,6 +1,6 @@
 -- The course of a run over the files of its store: what each statement does, in order, and where the run is refused. Want of
 -- memory and a store that fails are not in it.
-use Rattle.std.specs.Prelude.{◌≡◌, ◌⊎◌, ℕ, List, [], ◌∷◌, ◌++◌, None, Some, Err}
+use Rattle.std.specs.Prelude.{◌≡◌, ◌⊎◌, List, [], ◌∷◌, ◌++◌, None, Some, Err}
 use Rattle.aqe_base.specs.declared.status.Status.{Status}
 use Rattle.aqe_base.specs.declared.status.Status.TheVariants as status
 use Rattle.aqe_base.specs.declared.status.AnalysisKind.TheVariants as analysis

@@ -1,4 +1,4 @@
-use Rattle.std.proofs.Common.{arith}
+use Rattle.std.proofs.Common.{arith, ◌<◌, length}
 use Rattle.std.proofs.lemmas.Result.{err_from_is_err_and}
 use Rattle.aqe_tables.proofs.LoadFacts.{keeps_through}
 use Rattle.aqe_cli.proofs.LoadFacts.{all_rest, behind_all, behind_next, behind_refused, covers_next}
@@ -20,7 +20,7 @@ tables-preserved g c = record {
       c.tables.left.now c.in-Some.table c.tables.invariant.keeps c.in-Some.ensures c.tables.invariant.behind c.in_ok-load_one.ensures.next;
   covers = covers_next c.tables.tables c.load_one.new.tables c.in-Some.rest.now c.tables.left.now c.args.numbers.now c.in-Some.table c.in-Some.ensures c.tables.invariant.covers
       c.in_ok-load_one.ensures.stays c.in_ok-load_one.ensures.loaded;
-  within = all_rest _ c.in-Some.rest.now c.tables.left.now c.in-Some.table c.in-Some.ensures c.tables.invariant.within;
+  within = all_rest (λ n. n < length c.args.catalog.now) c.in-Some.rest.now c.tables.left.now c.in-Some.table c.in-Some.ensures c.tables.invariant.within;
 }
 
 pub returns-clause-all : goal.returns-clause-all

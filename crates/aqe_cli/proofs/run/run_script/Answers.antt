@@ -1,4 +1,4 @@
-use Rattle.std.proofs.Common.{arith, ap, length}
+use Rattle.std.proofs.Common.{arith, ap, length, rules}
 use Rattle.std.proofs.lemmas.Result.{err_from_is_err_and}
 use Rattle.aqe_tables.proofs.LoadFacts.{keeps_through}
 use Rattle.aqe_cli.proofs.ScriptFacts.{begun_told, carried_told, rest_built, stopped_told}

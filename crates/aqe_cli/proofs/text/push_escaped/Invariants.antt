@@ -1,5 +1,5 @@
 -- the text holds what was printed so far
-use Rattle.std.proofs.Common.{◌≡◌, ◌++◌, ◌∷◌, take}
+use Rattle.std.proofs.Common.{◌≡◌, ◌++◌, take}
 use Rattle.std.specs.List.{flat_map}
 use Rattle.aqe_cli.specs.ResultText.{escaped_byte}
 use Rattle.aqe_cli.proofs.text.push_escaped.Given as goal
