@@ -1,7 +1,6 @@
-//! Worked queries over one table, and that calls succeed with ample memory.
+//! Small queries over one table, with ample memory. What queries come to is shown by scripts, where the program is tested.
 
 use crate::{AnalysisFault, analyse};
-use aqe_base::AnalysisKind;
 use aqe_built::is_query_built;
 use aqe_logical::{Logical, schema_of};
 use aqe_tables::Catalog;
@@ -78,13 +77,6 @@ fn table(alloc: Global, name: &str) -> Result<Items<JoinedTree>, Fail> {
     from_one(alloc, SourceTree::Table { name, alias: None })
 }
 
-/// `*`
-fn star(alloc: Global) -> Result<Items<ItemTree>, Fail> {
-    let mut list = Items::new(alloc);
-    list.push(ItemTree::All)?;
-    Ok(list)
-}
-
 /// The expression without alias.
 fn one(alloc: Global, value: OrTree) -> Result<Items<ItemTree>, Fail> {
     let mut list = Items::new(alloc);
@@ -123,14 +115,6 @@ fn names_of(alloc: Global, query: QueryTree) -> Result<String, Fail> {
     }
 }
 
-/// What the query is refused for.
-fn refusal_of(alloc: Global, query: QueryTree) -> Result<(AnalysisKind, Text), Fail> {
-    match plan_of(alloc, &query)? {
-        Err(AnalysisFault::Refused { kind, name }) => Ok((kind, name)),
-        _ => Err(Fail::new("not refused")),
-    }
-}
-
 /// `SELECT b FROM T`
 fn one_column(alloc: Global) -> Result<QueryTree, Fail> {
     let list = one(alloc, column(alloc, "b")?)?;
@@ -142,31 +126,6 @@ fn one_column(alloc: Global) -> Result<QueryTree, Fail> {
 fn one_null(alloc: Global) -> Result<QueryTree, Fail> {
     let list = one(alloc, alone(alloc, PrimaryTree::Null))?;
     Ok(query(alloc, list, Items::new(alloc), None))
-}
-
-/// `SELECT *`
-fn star_alone(alloc: Global) -> Result<QueryTree, Fail> {
-    Ok(query(alloc, star(alloc)?, Items::new(alloc), None))
-}
-
-/// `SELECT * FROM name`
-fn all_of(alloc: Global, name: &str) -> Result<QueryTree, Fail> {
-    let from = table(alloc, name)?;
-    Ok(query(alloc, star(alloc)?, from, None))
-}
-
-/// `SELECT * FROM (SELECT * FROM t)`
-fn all_of_all(alloc: Global) -> Result<QueryTree, Fail> {
-    let inner = all_of(alloc, "t")?;
-    let from = from_one(alloc, SourceTree::paren(alloc, inner, None)?)?;
-    Ok(query(alloc, star(alloc)?, from, None))
-}
-
-/// `SELECT * FROM t WHERE a`
-fn all_where_a(alloc: Global) -> Result<QueryTree, Fail> {
-    let number = column(alloc, "a")?;
-    let from = table(alloc, "t")?;
-    Ok(query(alloc, star(alloc)?, from, Some(number)))
 }
 
 #[test]
@@ -182,40 +141,5 @@ fn an_expression_is_named_by_its_place(rt: HostRuntime) -> Result<(), Fail> {
     let alloc = rt.alloc();
     let names = names_of(alloc, one_null(alloc)?)?;
     assert_eq!(rt; names.as_str(), "_c0;");
-    Ok(())
-}
-
-#[test]
-fn a_star_is_all_columns_of_a_query(rt: HostRuntime) -> Result<(), Fail> {
-    let alloc = rt.alloc();
-    let names = names_of(alloc, all_of_all(alloc)?)?;
-    assert_eq!(rt; names.as_str(), "a;B;");
-    Ok(())
-}
-
-#[test]
-fn a_star_wants_a_from(rt: HostRuntime) -> Result<(), Fail> {
-    let alloc = rt.alloc();
-    let (kind, name) = refusal_of(alloc, star_alone(alloc)?)?;
-    assert_eq!(rt; kind, AnalysisKind::NoSuchColumn);
-    assert_eq!(rt; name.as_str(), "*");
-    Ok(())
-}
-
-#[test]
-fn a_condition_is_boolean(rt: HostRuntime) -> Result<(), Fail> {
-    let alloc = rt.alloc();
-    let (kind, name) = refusal_of(alloc, all_where_a(alloc)?)?;
-    assert_eq!(rt; kind, AnalysisKind::TypeMismatch);
-    assert_eq!(rt; name.as_str(), "");
-    Ok(())
-}
-
-#[test]
-fn an_unknown_table_is_told(rt: HostRuntime) -> Result<(), Fail> {
-    let alloc = rt.alloc();
-    let (kind, name) = refusal_of(alloc, all_of(alloc, "u")?)?;
-    assert_eq!(rt; kind, AnalysisKind::NoSuchTable);
-    assert_eq!(rt; name.as_str(), "u");
     Ok(())
 }
