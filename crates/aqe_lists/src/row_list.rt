@@ -28,6 +28,7 @@ pub(crate) fn one_row<'a>(alloc: Global) -> Result<RowList<'a>, Memory>
 pub(crate) fn lend<'a>(rows: &'a Rows, lent: &mut Vec<&'a Row>) -> Result<(), Memory>
     ensures { OnOk result (rows_behind lent.new.items ≡ rows_behind lent.old.items ++ rows.now) }
 {
+    lent.reserve(rows.len())?;
     'rows: for row in rows.slice() {
         lent.push(row)?;
     }

@@ -1,5 +1,5 @@
 -- Names among columns and aliases, as the code looks for them.
-use Rattle.std.proofs.Common.{◌≡◌, ℕ, Bool, true, false, List, [], ◌∷◌, ◌++◌, map, cond, ◌||◌, Option, Some, None, Result, Ok, Err, refl, ap, sym, subst, ◌∙◌}
+use Rattle.std.proofs.Common.{◌≡◌, ℕ, Bool, true, false, List, [], ◌∷◌, ◌++◌, map, cond, ◌||◌, Some, None, Result, refl, ap, sym, subst, ◌∙◌}
 use Rattle.std.specs.Prelude.{filter, flat_map}
 use Rattle.std.specs.List.{list_any}
 use Rattle.aqe_base.specs.declared.status.AnalysisKind.TheVariants.{NoSuchColumn, Ambiguous}
@@ -17,7 +17,7 @@ use Rattle.aqe_rules.specs.Selects.{with_aliases, alias_of}
 use Rattle.aqe_rules.specs.Faults.{Says, Fails, Tells}
 use Rattle.aqe_rules.proofs.Steps.{memory_fails}
 use Rattle.aqe_typing.specs.Values.{value_of_or}
-use Rattle.aqe_typing.specs.Aliases.{under_alias, under_aliases}
+use Rattle.aqe_typing.specs.Aliases.{under_aliases}
 use Rattle.aqe_typing.proofs.LevelValues.{is_read}
 
 only_meant : (name : List ℕ) (all : List Alias) → upon (the_only name all) (λ (a : Alias). a.value []) ≡ upon (the_only name (map (λ (a : Alias). a.value []) all)) (λ (o : Outcome Typed). o)

@@ -1,5 +1,5 @@
 -- Whether a tree of each level is no more than a column, from its parts.
-use Rattle.std.proofs.Common.{◌≡◌, ◌<◌, ℕ, zero, suc, Bool, true, false, List, [], ◌∷◌, map, length, Option, refl, ap, sym, ◌∙◌, arith}
+use Rattle.std.proofs.Common.{◌≡◌, ◌<◌, ℕ, zero, suc, Bool, true, false, List, [], ◌∷◌, map, length, Option, refl, ap, ◌∙◌, arith}
 use Rattle.aqe_values.specs.declared.sql_type.SqlType.{SqlType}
 use Rattle.aqe_trees.specs.declared.expression.OrTree.{OrTree}
 use Rattle.aqe_trees.specs.declared.expression.AndTree.{AndTree}
@@ -20,7 +20,7 @@ use Rattle.aqe_trees.specs.declared.expression.PrimaryTree.TheVariants as primar
 use Rattle.aqe_trees.specs.declared.expression.Arm.{Arm}
 use Rattle.aqe_trees.specs.Shapes.{or_tree, and_tree, not_tree, predicate_tree, comparison_tree, sum_tree, product_tree, sign_tree}
 use Rattle.aqe_rules.specs.Looks.{Alone, something, alone}
-use Rattle.aqe_rules.specs.Trees.{times, under_signs, negated_if, chain, chain_of_one, made_of, made_of_and, made_of_not, made_of_predicate, made_of_test, made_of_comparison, made_of_sum, made_of_product, made_of_sign, made_of_primary}
+use Rattle.aqe_rules.specs.Trees.{negated_if, chain, chain_of_one, made_of, made_of_and, made_of_not, made_of_predicate, made_of_test, made_of_comparison, made_of_sum, made_of_product, made_of_sign, made_of_primary}
 use Rattle.aqe_rules.proofs.Levels.{of_or, of_and, of_not, of_predicate, of_comparison, of_sum, of_product, of_sign, of_number, of_literal, of_boolean, of_null, of_column, of_table_column, of_paren, of_cast, of_count_all, of_call, of_case, of_plain, of_between, of_one_of, of_like, of_is}
 use Rattle.aqe_typing.specs.Columns.{is_a_column, is_column_of_or, is_column_of_and, is_column_of_not, is_column_of_predicate, is_column_of_comparison, is_column_of_sum, is_column_of_product, is_column_of_sign, is_column_of_primary}
 

@@ -1,5 +1,5 @@
 -- What a tree of each level comes to, from what its parts come to.
-use Rattle.std.proofs.Common.{◌≡◌, ℕ, zero, suc, Bool, true, false, List, [], ◌∷◌, map, Option, Some, None, Ok, Err, refl, ap, sym, ◌∙◌, codes}
+use Rattle.std.proofs.Common.{◌≡◌, ℕ, zero, suc, Bool, true, false, List, [], ◌∷◌, map, Option, Some, None, Ok, Err, refl, ap, ◌∙◌, codes}
 use Rattle.std.specs.Prelude.{fold, option_map}
 use Rattle.aqe_base.specs.declared.status.AnalysisKind.TheVariants.{NestedAggregate}
 use Rattle.aqe_values.specs.declared.sql_type.SqlType.{SqlType}
@@ -24,11 +24,11 @@ use Rattle.aqe_trees.specs.declared.expression.PrimaryTree.TheVariants as primar
 use Rattle.aqe_trees.specs.declared.expression.Arm.{Arm}
 use Rattle.aqe_trees.specs.Shapes.{or_tree, and_tree, not_tree, predicate_tree, comparison_tree, sum_tree, product_tree, sign_tree, arm}
 use Rattle.aqe_rules.specs.declared.typed.Typed.{Typed}
-use Rattle.aqe_rules.specs.Outcomes.{Outcome, refused, upon, each, if_any}
+use Rattle.aqe_rules.specs.Outcomes.{Outcome, refused, upon, each}
 use Rattle.aqe_rules.specs.Operations as operation
 use Rattle.aqe_rules.specs.Readings as reading
 use Rattle.aqe_rules.specs.Readings.{Place, Reading, readings, within_call, column_named, column_of_item, aggregate_named}
-use Rattle.aqe_rules.specs.Trees.{times, under_signs, negated_if, chain, chain_of_one, made_of, made_of_and, made_of_not, made_of_predicate, made_of_test, made_of_comparison, made_of_sum, made_of_product, made_of_sign, made_of_primary, made_of_arm}
+use Rattle.aqe_rules.specs.Trees.{times, under_signs, negated_if, chain, chain_of_one, made_of, made_of_and, made_of_not, made_of_predicate, made_of_comparison, made_of_sum, made_of_product, made_of_sign, made_of_primary, made_of_arm}
 use Rattle.aqe_rules.proofs.Levels.{of_or, of_and, of_not, of_predicate, of_comparison, of_sum, of_product, of_sign, of_arm, of_number, of_literal, of_boolean, of_null, of_column, of_table_column, of_paren, of_cast, of_count_all, of_call, of_case, of_plain, of_between, of_one_of, of_like, of_is}
 use Rattle.aqe_typing.specs.Values.{value_of_or, value_of_and, value_of_not, value_of_predicate, value_of_test, value_of_comparison, value_of_sum, value_of_product, value_of_sign, value_of_primary, value_of_arm, values_of, values_of_arms, value_if_any, on_two, on_three, not_times, not_if, signed, called, case}
 

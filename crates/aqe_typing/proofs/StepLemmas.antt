@@ -1,5 +1,5 @@
 -- A step over what its operands came to.
-use Rattle.std.proofs.Common.{◌≡◌, List, Result, Ok, Err, subst}
+use Rattle.std.proofs.Common.{◌≡◌, Result, Ok, Err, subst}
 use Rattle.aqe_rules.specs.declared.fault.AnalysisFault.{AnalysisFault}
 use Rattle.aqe_rules.specs.Outcomes.{Outcome, upon}
 use Rattle.aqe_rules.specs.declared.typed.Typed.{Typed}

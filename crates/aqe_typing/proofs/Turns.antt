@@ -1,5 +1,5 @@
 -- Loops over the operands of a chain: what they have come to, and what is left.
-use Rattle.std.proofs.Common.{◌≡◌, ◌≤◌, ◌<◌, ◌+◌, ℕ, suc, List, [], ◌∷◌, length, drop, get_or, add-one, drop-cons, ap, sym, subst, refl, ◌∙◌, Result, Ok}
+use Rattle.std.proofs.Common.{◌≡◌, ◌≤◌, ◌<◌, ◌+◌, ℕ, suc, List, ◌∷◌, length, drop, get_or, add-one, drop-cons, ap, sym, subst, ◌∙◌, Result, Ok}
 use Rattle.std.specs.Prelude.{fold}
 use Rattle.std.proofs.lemmas.List.{drop_all}
 use Rattle.aqe_rules.specs.declared.fault.AnalysisFault.{AnalysisFault}

@@ -1,12 +1,8 @@
-use Rattle.std.proofs.Common.{◌≡◌, rules, ap, sym, subst, ◌∙◌, List, Ok, Err}
+use Rattle.std.proofs.Common.{ap, sym, subst, ◌∙◌, List}
 use Rattle.aqe_trees.specs.declared.expression.OrTree.{OrTree}
-use Rattle.aqe_trees.specs.declared.expression.AndTree.{AndTree}
 use Rattle.aqe_trees.specs.declared.expression.NotTree.{NotTree}
 use Rattle.aqe_trees.specs.declared.expression.PredicateTree.{PredicateTree}
 use Rattle.aqe_trees.specs.declared.expression.Test.{Test}
-use Rattle.aqe_trees.specs.declared.expression.ComparisonTree.{ComparisonTree}
-use Rattle.aqe_trees.specs.declared.expression.SumTree.{SumTree}
-use Rattle.aqe_trees.specs.declared.expression.ProductTree.{ProductTree}
 use Rattle.aqe_trees.specs.declared.expression.SignTree.{SignTree}
 use Rattle.aqe_trees.specs.declared.expression.PrimaryTree.{PrimaryTree}
 use Rattle.aqe_trees.specs.declared.expression.Arm.{Arm}
