@@ -21,7 +21,8 @@ use std::alloc::Global;
 /// Names stand as they were written. Several columns may have one name: then it means none of them.
 #[derive(Drop)]
 pub struct Named {
-    /// The name of the item of FROM that the column is of, where there is such an item and it has a name.
+    /// The name of the item of FROM that the column is of; none where that has no name or there is
+    /// no such item.
     pub item: Option<Text>,
     /// The column's own name.
     pub name: Text,
@@ -40,7 +41,8 @@ pub(crate) enum Found<'a> {
     Several,
 }
 
-/// Whether two names are the same, where ASCII case does not count. Other letters are compared as they stand.
+/// Whether two names are the same, where ASCII case does not count. Other letters are compared as
+/// they stand.
 pub fn alike(a: &Text, b: &Text) -> bool
     ensures { result ≡ spec.alike a.now b.now }
 {
@@ -123,7 +125,8 @@ fn about(alloc: Global, kind: AnalysisKind, table: &Text, name: &Text) -> Analys
     }
 }
 
-/// What `table.name` means among the columns. The value is a copy; a refusal tells the name with its item.
+/// What `table.name` means among the columns. The value is a copy; a refusal tells the name with
+/// its item.
 #[tactic(auto, using(crate::proofs::FoundSteps::found_steps))]
 pub fn column_of_item(
     alloc: Global,

@@ -1,4 +1,5 @@
-//! The operations on expressions with their types: what each asks of its operands, and what it gives.
+//! The operations on expressions with their types: what each asks of its operands, and what it
+//! gives.
 
 ghost use Rattle.std.specs.Prelude.{◌≡◌, ◌≤◌, ◌∷◌, [], IfOk, length};
 ghost use Rattle.aqe_values.specs.Bounds.{text_limit};
