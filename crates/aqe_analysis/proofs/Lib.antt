@@ -1,0 +1,7 @@
+pub mod ColumnSteps
+pub mod ColumnLists
+pub mod TableSteps
+pub mod NameSteps
+pub mod OutputSteps
+pub mod SelectSteps
+pub mod QuerySteps

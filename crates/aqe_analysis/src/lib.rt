@@ -2,6 +2,14 @@
 #![tactic(auto)]
 
 mod analysis;
+mod limits;
+mod output_names;
+mod outputs;
+mod scope;
+mod select;
+mod source;
+#[cfg(test)]
+mod tests;
 
 pub use analysis::analyse;
 pub use aqe_rules::{

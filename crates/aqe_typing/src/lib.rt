@@ -1,6 +1,16 @@
 //! Expressions read at their place: from a tree to a typed expression over the columns of a row.
 #![tactic(auto)]
 
+mod aliases;
+mod calls;
+mod cases;
+mod column;
+mod levels;
+mod literals;
+mod names;
+mod steps;
+#[cfg(test)]
+mod tests;
 mod value;
 
 pub use value::{is_column, value_over, value_with_aliases};
