@@ -99,7 +99,7 @@ fn case_pairs(
     Ok(chain)
 }
 
-/// CASE without an operand.
+/// CASE without an operand. An arm is a WHEN and its THEN.
 #[tactic(auto, using(crate::proofs::CaseSteps::case_steps))]
 pub fn case_of(
     alloc: Global,
@@ -122,7 +122,7 @@ pub fn case_of(
     }
 }
 
-/// CASE with an operand.
+/// CASE with an operand, which each WHEN is compared with. An arm is a WHEN and its THEN.
 #[tactic(auto, using(crate::proofs::CaseSteps::case_steps))]
 pub fn switch(
     alloc: Global,

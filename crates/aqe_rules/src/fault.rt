@@ -7,8 +7,13 @@ use std::alloc::{AllocError, AllocFailed};
 /// The first check that fails, or want of memory.
 #[derive(Debug, Drop)]
 pub enum AnalysisFault {
-    /// A check of names, types or grouping, with the name that it is about; empty where it is about none.
-    Refused { kind: AnalysisKind, name: Text },
+    /// A check of names, types or grouping.
+    Refused {
+        /// The check that fails.
+        kind: AnalysisKind,
+        /// The name that the check is about; empty where it is about none.
+        name: Text,
+    },
     /// A plan has more than 256 operators.
     TooManyOperators,
     /// A node of a plan has more than 256 columns.

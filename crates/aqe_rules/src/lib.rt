@@ -1,4 +1,5 @@
-//! The rules of names, types and grouping: which plan a query has, and the operations on typed expressions.
+//! The rules of names, types and grouping: which plan a query has, and the operations on typed
+//! expressions.
 #![tactic(auto)]
 
 mod cases;

@@ -6,6 +6,8 @@ ghost use Rattle.aqe_rules.specs.Limits as spec;
 use aqe_logical::Logical;
 
 /// What is left of the room for operators behind those of the plan, where they find room.
+///
+/// It goes as deep as the plan, and looks at each operator once.
 #[tactic(auto, using(crate::proofs::OperatorSteps::operator_steps))]
 pub fn room_behind(plan: &Logical, room: u32) -> Option<u32>
     ensures { MatchOption result (room < spec.operator_count plan.now) (λ left. left + spec.operator_count plan.now ≡ room) }

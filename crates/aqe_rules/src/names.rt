@@ -16,23 +16,33 @@ use aqe_base::AnalysisKind;
 use aqe_values::{Memory, Text};
 use std::alloc::Global;
 
-/// A column that names may mean: the name of its item of FROM, where it has one, its own name, and what it stands for.
+/// A column that names may mean.
+///
+/// Names stand as they were written. Several columns may have one name: then it means none of them.
 #[derive(Drop)]
 pub struct Named {
+    /// The name of the item of FROM that the column is of; none where that has no name or there is
+    /// no such item.
     pub item: Option<Text>,
+    /// The column's own name.
     pub name: Text,
+    /// What the name stands for.
     pub value: Typed,
 }
 
 /// The columns that a name may mean.
 #[derive(Drop)]
 pub(crate) enum Found<'a> {
+    /// No column has the name.
     Nothing,
+    /// This column alone has it.
     One(&'a Named),
+    /// Two columns or more have it.
     Several,
 }
 
-/// Whether two names are the same, where ASCII case does not count.
+/// Whether two names are the same, where ASCII case does not count. Other letters are compared as
+/// they stand.
 pub fn alike(a: &Text, b: &Text) -> bool
     ensures { result ≡ spec.alike a.now b.now }
 {
@@ -115,7 +125,8 @@ fn about(alloc: Global, kind: AnalysisKind, table: &Text, name: &Text) -> Analys
     }
 }
 
-/// What `table.name` means among the columns.
+/// What `table.name` means among the columns. The value is a copy; a refusal tells the name with
+/// its item.
 #[tactic(auto, using(crate::proofs::FoundSteps::found_steps))]
 pub fn column_of_item(
     alloc: Global,
@@ -135,7 +146,7 @@ pub fn column_of_item(
     }
 }
 
-/// What a name means among the columns, where no alias may be used.
+/// What a name means among the columns, where no alias may be used. The value is a copy.
 #[tactic(auto, using(crate::proofs::FoundSteps::found_steps))]
 pub fn column_named(alloc: Global, name: &Text, columns: &[Named]) -> Result<Typed, AnalysisFault>
     ensures { Says result (spec.column_named name.now (over columns.now)) }

@@ -1,4 +1,5 @@
-//! The operations on expressions with their types: what each asks of its operands, and what it gives.
+//! The operations on expressions with their types: what each asks of its operands, and what it
+//! gives.
 
 ghost use Rattle.std.specs.Prelude.{◌≡◌, ◌≤◌, ◌∷◌, [], IfOk, length};
 ghost use Rattle.aqe_values.specs.Bounds.{text_limit};
@@ -16,7 +17,7 @@ use aqe_trees::{CompareOp, ProductOp, Sign, Truth};
 use aqe_values::{Memory, SqlType, Text, Value};
 use std::alloc::Global;
 
-/// The refusal of a kind that is about a name.
+/// The refusal of a kind that is about a name, which is copied; `Memory` where it finds no room.
 pub fn refused(alloc: Global, kind: AnalysisKind, name: &str) -> AnalysisFault
     requires { length name.now ≤ text_limit }
     ensures { Tells result (outcomes.refused kind name.now) }
@@ -71,7 +72,7 @@ pub(crate) fn converted(alloc: Global, kind: SqlType, a: Typed) -> Result<Expr, 
     Ok(cast)
 }
 
-/// `CAST (a AS kind)`
+/// `CAST (a AS kind)`, from each type to each.
 pub fn cast(alloc: Global, kind: SqlType, a: Typed) -> Result<Typed, Memory>
     ensures { IfOk result (λ t. t ≡ spec.cast kind a) }
 {
@@ -116,7 +117,7 @@ fn arithmetic(
     }
 }
 
-/// `a * b`, `a % b` and `a DIV b`
+/// `a * b`, `a % b` and `a DIV b`. What a divisor of 0 gives is left to the evaluation.
 pub fn product_operation(
     alloc: Global,
     op: ProductOp,
@@ -159,7 +160,7 @@ fn comparing(op: CompareOp) -> BinaryOp
     }
 }
 
-/// Comparing two operands.
+/// `a = b` and the other comparisons of two operands.
 #[tactic(auto, using(crate::proofs::Comparing::with_common))]
 pub fn comparison(alloc: Global, op: CompareOp, a: Typed, b: Typed) -> Result<Typed, AnalysisFault>
     ensures { Says result (spec.comparison op a b) }
@@ -222,7 +223,7 @@ fn operands(alloc: Global, kind: SqlType, all: Vec<Typed>) -> Result<Operands, M
     Ok(chain)
 }
 
-/// `coalesce(..)`
+/// `coalesce(..)`. That it has an argument is left to the caller.
 #[tactic(auto, using(crate::proofs::Comparing::with_common))]
 pub fn coalesce(alloc: Global, all: Vec<Typed>) -> Result<Typed, AnalysisFault>
     ensures { Says result (spec.coalesce all.items) }
@@ -250,7 +251,7 @@ fn common_with_list(a: &Typed, all: &[Typed]) -> Option<SqlType>
     so_far
 }
 
-/// `a IN (..)`
+/// `a IN (..)`. That the list is not empty is left to the caller.
 #[tactic(auto, using(crate::proofs::Comparing::with_common))]
 pub fn in_list(alloc: Global, a: Typed, all: Vec<Typed>) -> Result<Typed, AnalysisFault>
     ensures { Says result (spec.in_list a all.items) }
@@ -269,7 +270,7 @@ pub fn in_list(alloc: Global, a: Typed, all: Vec<Typed>) -> Result<Typed, Analys
     }
 }
 
-/// `a LIKE pattern`
+/// `a LIKE pattern`. Each text is a pattern.
 #[tactic(auto, using(crate::proofs::Steps::steps))]
 pub fn like(alloc: Global, a: Typed, pattern: Typed) -> Result<Typed, AnalysisFault>
     ensures { Says result (spec.like a pattern) }
@@ -307,7 +308,7 @@ pub fn negation(alloc: Global, a: Typed) -> Result<Typed, AnalysisFault>
     on_truth(alloc, UnaryOp::Not, a)
 }
 
-/// `a AND b` and `a OR b`
+/// `a AND b` and `a OR b`. That `op` is one of these two is left to the caller.
 #[tactic(auto, using(crate::proofs::Steps::steps))]
 pub fn logical(alloc: Global, op: BinaryOp, a: Typed, b: Typed) -> Result<Typed, AnalysisFault>
     ensures { Says result (spec.logical op a b) }

@@ -9,14 +9,18 @@ use aqe_values::{Memory, SqlType};
 use std::alloc::Global;
 
 /// An expression over the columns of a row, and the type of its values.
+///
+/// Nothing ties the two: each call here takes the types of its operands as they are given.
 #[derive(Drop)]
 pub struct Typed {
+    /// The expression, whose columns are numbered from 0.
     pub expr: Expr,
+    /// The type of its values; one of its own where NULL is the only one.
     pub kind: SqlType,
 }
 
 impl Typed {
-    /// An expression and a type equal to these.
+    /// An expression and a type equal to these, which share nothing with them.
     pub fn copy(&self, alloc: Global) -> Result<Typed, Memory>
         ensures { IfOk result (λ t. t ≡ self.now) }
     {
@@ -75,7 +79,7 @@ pub(crate) fn is_number(kind: SqlType) -> bool
     matches!(kind, SqlType::NullType | SqlType::Int | SqlType::BigInt)
 }
 
-/// Whether a value of the type may stand where a BOOLEAN is wanted.
+/// Whether a value of the type may stand where a BOOLEAN is wanted, as NULL may.
 pub fn is_truth(kind: SqlType) -> bool
     ensures { result ≡ kinds.is_truth kind }
 {
