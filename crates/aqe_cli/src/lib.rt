@@ -17,4 +17,6 @@ pub use run::run_words;
 pub use text::result_text;
 
 #[cfg(test)]
+mod limit_tests;
+#[cfg(test)]
 mod tests;
