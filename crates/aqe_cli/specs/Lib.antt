@@ -5,3 +5,4 @@ pub mod Course
 pub mod Opening
 pub mod Run
 pub mod Steps
+pub mod Laws

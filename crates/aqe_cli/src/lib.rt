@@ -12,7 +12,7 @@ mod statement;
 mod text;
 mod words;
 
-pub use laws::texts_tell_rows;
+pub use laws::{runs_end_in_one_way, runs_have_one_refusal, texts_tell_rows};
 pub use run::run_words;
 pub use text::result_text;
 
