@@ -18,26 +18,11 @@ PYTHON
 cat >"$room/q.sql" <<'SQL'
 CREATE TABLE t (a INT, b STRING) USING csv LOCATION 't'; SELECT * FROM t
 SQL
-cat >"$room/measure.py" <<'PYTHON'
-import os
-import resource
-import subprocess
-import sys
-import time
-
-name, out, *words = sys.argv[1:]
-begun = time.monotonic()
-with open(out, "wb") as sink:
-    status = subprocess.call(words, stdout=sink)
-wall = time.monotonic() - begun
-peak = resource.getrusage(resource.RUSAGE_CHILDREN).ru_maxrss / 1024
-print(f"{name:8} {wall:6.2f} s  {peak:7.0f} MB  status {status}  {os.path.getsize(out)} bytes printed")
-PYTHON
 cd "$room"
 echo "rows $rows, table $(stat -c %s t/0.csv) bytes"
-python3 measure.py aqe out.aqe "$top/crates/aqe/out/aqe" run q.sql
+python3 "$top/bench/measure.py" aqe out.aqe "$top/crates/aqe/out/aqe" run q.sql
 if command -v sqlite3 >/dev/null 2>&1; then
-    python3 measure.py sqlite3 out.sqlite sqlite3 :memory: -cmd 'create table t (a int, b text)' \
+    python3 "$top/bench/measure.py" sqlite3 out.sqlite sqlite3 :memory: -cmd 'create table t (a int, b text)' \
         -cmd '.mode csv' -cmd '.import t/0.csv t' 'select * from t'
 else
     echo "sqlite3  skipped: it is not installed"

@@ -23,28 +23,13 @@ cat >"$room/q.sql" <<'SQL'
 CREATE TABLE t (id INT, digit INT, amount BIGINT, region STRING) USING csv LOCATION 't';
 SELECT id + digit AS n, amount * 2 % 1000003 AS m FROM t WHERE digit = 3
 SQL
-cat >"$room/measure.py" <<'PYTHON'
-import os
-import resource
-import subprocess
-import sys
-import time
-
-name, out, *words = sys.argv[1:]
-begun = time.monotonic()
-with open(out, "wb") as sink:
-    status = subprocess.call(words, stdout=sink)
-wall = time.monotonic() - begun
-peak = resource.getrusage(resource.RUSAGE_CHILDREN).ru_maxrss / 1024
-print(f"{name:8} {wall:6.2f} s  {peak:7.0f} MB  status {status}  {os.path.getsize(out)} bytes printed")
-PYTHON
 cd "$room"
 echo "rows $rows, table $(cat t/*.csv | wc -c) bytes in 8 files"
-python3 measure.py aqe out.aqe "$top/crates/aqe/out/aqe" run q.sql
+python3 "$top/bench/measure.py" aqe out.aqe "$top/crates/aqe/out/aqe" run q.sql
 if command -v sqlite3 >/dev/null 2>&1; then
     imports=()
     for part in 0 1 2 3 4 5 6 7; do imports+=(-cmd ".import t/$part.csv t"); done
-    python3 measure.py sqlite3 out.sqlite sqlite3 :memory: \
+    python3 "$top/bench/measure.py" sqlite3 out.sqlite sqlite3 :memory: \
         -cmd 'create table t (id int, digit int, amount int, region text)' -cmd '.mode csv' "${imports[@]}" \
         -cmd '.separator "\t" "\n"' 'select id + digit, amount * 2 % 1000003 from t where digit = 3'
     # the same rows, but for the header and the end line of the one
