@@ -15,7 +15,6 @@ pub fn runs_have_one_refusal()
 {}
 
 /// A run that is carried out is not refused.
-#[tactic(auto, using(crate::proofs::OneCourse::done_not_refused))]
 pub fn runs_end_in_one_way()
     ensures { DoneIsNotRefused }
 {}

@@ -69,10 +69,10 @@ fn a_table_has_at_most_1000_files(rt: HostRuntime) -> Result<(), Fail> {
 /// The script and files of these lengths.
 fn long(alloc: Global, lens: &[usize]) -> Result<Files, Fail> {
     let mut files = script(alloc)?;
-    let mut number = 0;
+    let mut number: u32 = 0;
     for len in lens {
         files.push(file_of(alloc, number, *len)?)?;
-        number += 1;
+        number = number.wrapping_add(1);
     }
     Ok(files)
 }
