@@ -17,7 +17,7 @@ words = ["north", "south", "east", "west", "far away"]
 for part in range(8):
     numbers = range(part * rows // 8, (part + 1) * rows // 8)
     with open(f"{folder}/{part}.csv", "w") as file:
-        file.write("".join(f"{i},{i % 10},{i * 7919},{words[i % 5]}\n" for i in numbers))
+        file.write("".join(f"{i},{i % 10},{i * 7919 + 10000000000},{words[i % 5]}\n" for i in numbers))
 PYTHON
 cat >"$room/q.sql" <<'SQL'
 CREATE TABLE t (id INT, digit INT, amount BIGINT, region STRING) USING csv LOCATION 't';
