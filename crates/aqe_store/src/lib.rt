@@ -13,8 +13,6 @@ mod sink;
 mod std_sink;
 mod steady_store;
 mod store;
-#[cfg(test)]
-mod tests;
 
 pub use calls::{Calls, StoreCall, StoreKind, WriteNumbers};
 pub use file_store::FileStore;
