@@ -1,5 +1,5 @@
 -- Tests on names, and names gathered one by one.
-use Rattle.std.proofs.Common.{◌≡◌, ℕ, suc, ◌+◌, ◌<◌, List, [], ◌∷◌, ◌++◌, length, get_or, take, drop, Bool, true, false, not, refl, sym, ap, ◌∙◌, ◌↔◌, IsTrue, Option, Some, None, drop-cons}
+use Rattle.std.proofs.Common.{add-one, ◌≡◌, ℕ, suc, ◌+◌, ◌<◌, List, [], ◌∷◌, ◌++◌, length, get_or, take, drop, Bool, true, false, not, refl, sym, ap, ◌∙◌, ◌↔◌, IsTrue, Option, Some, None, drop-cons}
 use Rattle.std.specs.Prelude.{if◌then◌else◌, nat_lt}
 use Rattle.std.specs.Option.{is_some}
 use Rattle.std.proofs.lemmas.List.{map-append, take_more}
@@ -57,7 +57,7 @@ one_more columns i x keys new key b l is all so_far e added some grown =
     let names : name_keys (take i columns ++ x ∷ []) ≡ name_keys (take i columns) ++ str_to_ascii_lowercase x.0 ∷ [] =
     map-append (λ (column : List ℕ × SqlType). str_to_ascii_lowercase column.0) (take i columns) (x ∷ []) in
     let free : list_any (bytes_eq (str_to_ascii_lowercase x.0)) (name_keys (take i columns)) ≡ false = rw (← all, ← e) none in
-    (rw (more, names, ← all, ← e) is_new, rw more (sym (first (drop i columns) (from_place columns i x l is) free) ∙ so_far))
+    (rw (more, names, ← all, ← e) is_new, rw (more, add-one i) (sym (first (drop i columns) (from_place columns i x l is) free) ∙ so_far))
   where
     first : (rest : List (List ℕ × SqlType)) → rest ≡ x ∷ drop (suc i) columns → list_any (bytes_eq (str_to_ascii_lowercase x.0)) (name_keys (take i columns)) ≡ false
         → repeated_name (take i columns) rest ≡ repeated_name (take i columns ++ x ∷ []) (drop (suc i) columns)
