@@ -1,4 +1,3 @@
-pub mod Reserved
 pub mod Texts
 pub mod Terminals
 pub mod Settings
