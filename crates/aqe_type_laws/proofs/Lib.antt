@@ -1,0 +1,4 @@
+pub mod Values
+pub mod OperationsTyped
+pub mod RowsTyped
+pub mod ReadingsTyped

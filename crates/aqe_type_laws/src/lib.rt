@@ -1,0 +1,2 @@
+//! The laws of types: what an analysed query gives is of the types that its columns have.
+#![tactic(auto)]
