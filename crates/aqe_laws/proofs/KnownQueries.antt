@@ -23,7 +23,8 @@ use Rattle.aqe_trees.specs.declared.query.ItemTree.{ItemTree}
 use Rattle.aqe_trees.specs.declared.query.ItemTree.TheVariants as tree
 use Rattle.aqe_trees.specs.declared.query.SortTree.{SortTree}
 use Rattle.aqe_rules.specs.Outcomes.{Outcome, refused}
-use Rattle.aqe_rules.specs.Operations.{Typed, typed}
+use Rattle.aqe_rules.specs.declared.typed.Typed.{Typed}
+use Rattle.aqe_rules.specs.Operations.{typed}
 use Rattle.aqe_rules.specs.Readings.{Place, Reading, Call, readings}
 use Rattle.aqe_rules.specs.Looks.{Alone, a_number, a_column, something, Mention, plain}
 use Rattle.aqe_rules.specs.Expressions.{read, alone_of, has_aggregate, mentions_of}
@@ -75,7 +76,7 @@ abbrev IsColumn : OrTree → List ℕ → Type 0
 IsColumn v name = IsRead v (readings.column name) a_column false (plain name ∷ [])
 
 -- ORDER BY with each of the four ways: over the output columns, and over a hidden column behind two of them
-four_ways : (v : OrTree) →
+pub four_ways : (v : OrTree) →
     keys_of 2 (shown (Column 0) ∷ shown (Column 1) ∷ hidden (typed (Column 5) sql.Int) ∷ hidden (typed (Column 6) sql.Int) ∷ []) (by v false false ∷ by v false true ∷ by v true false ∷ by v true true ∷ []) ≡
     record { expr = Column 0; way = way false false } ∷ record { expr = Column 1; way = way false true } ∷ record { expr = Column 2; way = way true false } ∷ record { expr = Column 3; way = way true true } ∷ []
 four_ways v = refl

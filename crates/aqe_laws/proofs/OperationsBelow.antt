@@ -21,7 +21,8 @@ use Rattle.aqe_trees.specs.declared.expression.Truth.{Truth}
 use Rattle.aqe_trees.specs.declared.expression.Truth.TheVariants as truth
 use Rattle.aqe_rules.specs.Outcomes.{Outcome, upon, present}
 use Rattle.aqe_rules.specs.Kinds.{is_same_kind, is_number, is_truth, is_text, wider}
-use Rattle.aqe_rules.specs.Operations.{Typed, typed, mismatch, nearest, number, cast_to, converted, cast, common_kind, signed_by, signed_operation, arithmetic, product_operation, sum_operation, comparing, comparison, between, operands, in_list, like, is_operation, negation, logical, otherwise_of, common_of_gives, common_of_tests, tested_as, case_pairs, case, coalesce, length_of}
+use Rattle.aqe_rules.specs.declared.typed.Typed.{Typed}
+use Rattle.aqe_rules.specs.Operations.{typed, mismatch, nearest, number, cast_to, converted, cast, common_kind, signed_by, signed_operation, arithmetic, product_operation, sum_operation, comparing, comparison, between, operands, in_list, like, is_operation, negation, logical, otherwise_of, common_of_gives, common_of_tests, tested_as, case_pairs, case, coalesce, length_of}
 use Rattle.aqe_rules.proofs.Gives.{Gives, IfAny, gives_upon, gives_all, gives_provided}
 
 abbrev pub Below : ℕ → Typed → Type 0

@@ -13,8 +13,9 @@ use Rattle.aqe_logical.specs.WellFormed.{ItemsBelow, KeysBelow}
 use Rattle.aqe_trees.specs.declared.expression.OrTree.{OrTree}
 use Rattle.aqe_trees.specs.declared.query.SortTree.{SortTree}
 use Rattle.aqe_rules.specs.Outcomes.{Outcome}
-use Rattle.aqe_rules.specs.Operations.{Typed}
-use Rattle.aqe_rules.specs.Readings.{Named, Call}
+use Rattle.aqe_rules.specs.declared.typed.Typed.{Typed}
+use Rattle.aqe_rules.specs.declared.names.Named.{Named}
+use Rattle.aqe_rules.specs.Readings.{Call}
 use Rattle.aqe_rules.specs.Looks.{Alone, a_number, a_column, something}
 use Rattle.aqe_rules.specs.Expressions.{read, alone_of}
 use Rattle.aqe_rules.specs.Sources.{numbered, over}

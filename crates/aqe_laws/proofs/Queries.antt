@@ -10,8 +10,9 @@ use Rattle.aqe_trees.specs.declared.expression.OrTree.{OrTree}
 use Rattle.aqe_trees.specs.declared.query.ItemTree.{ItemTree}
 use Rattle.aqe_trees.specs.declared.query.SortTree.{SortTree}
 use Rattle.aqe_rules.specs.Outcomes.{Outcome, upon, if_any}
-use Rattle.aqe_rules.specs.Operations.{Typed}
-use Rattle.aqe_rules.specs.Readings.{Named, Call, Place}
+use Rattle.aqe_rules.specs.declared.typed.Typed.{Typed}
+use Rattle.aqe_rules.specs.declared.names.Named.{Named}
+use Rattle.aqe_rules.specs.Readings.{Call, Place}
 use Rattle.aqe_rules.specs.Expressions.{read}
 use Rattle.aqe_rules.specs.Limits.{within_limits}
 use Rattle.aqe_rules.specs.Sources.{Catalog, Item, From, columns_of, over, condition, kept}

@@ -10,8 +10,10 @@ use Rattle.aqe_logical.specs.declared.plan.AggFun.{AggFun}
 use Rattle.aqe_logical.specs.declared.plan.AggFun.TheVariants.{Count}
 use Rattle.aqe_rules.specs.Outcomes.{refused, Outcome, upon, each, the_only}
 use Rattle.aqe_rules.specs.Operations as operation
-use Rattle.aqe_rules.specs.Operations.{Typed, typed, mismatch}
-use Rattle.aqe_rules.specs.Readings.{alike, Named, Alias, Call, Place, Reading, bears, is_of, column_or_alias, column_named, told, column_of_item, leaf, on_one, on_two, on_three, values, calls_in, on_all, on_one_and_all, calls_if_any, value_if_any, arm_value, case_reading, aggregate_named, takes, same_call, call_of, value_of_call, aggregate_value, within_call, call_made, the_argument, argument_value, aggregate_reading, counted, function_value, call_reading, readings}
+use Rattle.aqe_rules.specs.declared.typed.Typed.{Typed}
+use Rattle.aqe_rules.specs.Operations.{typed, mismatch}
+use Rattle.aqe_rules.specs.declared.names.Named.{Named}
+use Rattle.aqe_rules.specs.Readings.{alike, Alias, Call, Place, Reading, bears, is_of, column_or_alias, column_named, told, column_of_item, leaf, on_one, on_two, on_three, values, calls_in, on_all, on_one_and_all, calls_if_any, value_if_any, arm_value, case_reading, aggregate_named, takes, same_call, call_of, value_of_call, aggregate_value, within_call, call_made, the_argument, argument_value, aggregate_reading, counted, function_value, call_reading, readings}
 use Rattle.aqe_trees.specs.declared.expression.OrTree.{OrTree}
 use Rattle.aqe_rules.specs.Expressions.{read}
 use Rattle.aqe_rules.proofs.Gives.{Gives, IfAny, gives_upon, gives_provided, gives_each, gives_only}

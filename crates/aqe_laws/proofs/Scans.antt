@@ -1,5 +1,5 @@
 -- Each scan of an analysed plan has the columns of its table.
-use Rattle.std.proofs.Common.{◌≡◌, ℕ, suc, ◌+◌, List, [], ◌∷◌, ◌++◌, map, Option, Some, None, Ok, arith, refl, subst}
+use Rattle.std.proofs.Common.{◌≡◌, ℕ, suc, ◌+◌, List, [], ◌∷◌, ◌++◌, map, Option, Some, None, Ok, arith, ap, subst}
 use Rattle.std.specs.Prelude.{All}
 use Rattle.std.specs.List.{slice_get}
 use Rattle.std.proofs.lemmas.List.Elements.{All-nil, All-cons, All-append}
@@ -45,7 +45,10 @@ scan-has : (catalog : Catalog) (table : Option (ℕ × List Field)) → IfAny (�
 scan-has catalog None h = tt
 scan-has catalog (Some t) h = All-cons (HasItsColumns catalog) t [] h (All-nil (HasItsColumns catalog))
 
+from_zero : (k : ℕ) → 0 + k ≡ k
+from_zero k = omega arith
+
 pub of_the_catalog : ScansAreOfTheCatalog
 of_the_catalog tree catalog p e =
     subst (Gives (ScansHaveTheirColumns catalog)) e
-    (walk-holds ScansHaveTheirColumns forms-keep (λ catalog name. scan-has catalog (table_named name catalog 0) (named-found name (columns_of_tables catalog) catalog 0 (λ k. refl))) tree catalog)
+    (walk-holds ScansHaveTheirColumns forms-keep (λ catalog name. scan-has catalog (table_named name catalog 0) (named-found name (columns_of_tables catalog) catalog 0 (λ k. ap (slice_get (columns_of_tables catalog)) (from_zero k)))) tree catalog)

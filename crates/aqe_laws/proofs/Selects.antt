@@ -11,8 +11,10 @@ use Rattle.aqe_trees.specs.declared.query.ItemTree.{ItemTree}
 use Rattle.aqe_trees.specs.declared.query.ItemTree.TheVariants as tree
 use Rattle.aqe_trees.specs.declared.query.SortTree.{SortTree}
 use Rattle.aqe_rules.specs.Outcomes.{Outcome, upon, each}
-use Rattle.aqe_rules.specs.Operations.{Typed, typed}
-use Rattle.aqe_rules.specs.Readings.{Named, Call, Place, is_of, same_call}
+use Rattle.aqe_rules.specs.declared.typed.Typed.{Typed}
+use Rattle.aqe_rules.specs.Operations.{typed}
+use Rattle.aqe_rules.specs.declared.names.Named.{Named}
+use Rattle.aqe_rules.specs.Readings.{Call, Place, is_of, same_call}
 use Rattle.aqe_rules.specs.Looks.{Alone, a_number, a_column, something}
 use Rattle.aqe_rules.specs.Expressions.{read, alone_of}
 use Rattle.aqe_rules.specs.Grouping.{grouped}

@@ -14,7 +14,8 @@ use Rattle.aqe_trees.specs.declared.expression.OrTree.{OrTree}
 use Rattle.aqe_rules.specs.Outcomes.{Outcome, upon, provided}
 use Rattle.aqe_rules.specs.Kinds.{is_truth}
 use Rattle.aqe_rules.specs.Operations.{mismatch}
-use Rattle.aqe_rules.specs.Readings.{Named, Place}
+use Rattle.aqe_rules.specs.declared.names.Named.{Named}
+use Rattle.aqe_rules.specs.Readings.{Place}
 use Rattle.aqe_rules.specs.Expressions.{read}
 use Rattle.aqe_rules.specs.Limits.{within_limits}
 use Rattle.aqe_rules.specs.QueryForms.{Step}

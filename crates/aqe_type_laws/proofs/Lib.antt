@@ -2,3 +2,5 @@ pub mod Values
 pub mod OperationsTyped
 pub mod RowsTyped
 pub mod ReadingsTyped
+pub mod ExpressionsTyped
+pub mod AnswersTyped

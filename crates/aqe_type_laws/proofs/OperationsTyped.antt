@@ -14,7 +14,7 @@ use Rattle.aqe_expr.specs.declared.expr.BinaryOp.TheVariants as binary
 use Rattle.aqe_expr.specs.declared.expr.Expr.{Expr, Literal, Coalesce}
 use Rattle.aqe_expr.specs.Shapes.{unary_of, binary_of, between_of, one_of, case_of, switch_of}
 use Rattle.aqe_expr.specs.Numbers.{sum_of, difference_of, product_of, remainder_of}
-use Rattle.aqe_expr.specs.Truths.{is_true, is_null, is_known_true, equals, between as is_between, opposite, truth_of, both, either}
+use Rattle.aqe_expr.specs.Truths.{is_true, is_null, is_known_true, equals, differs, less, at_most, greater, at_least, between as is_between, opposite, truth_of, both, either}
 use Rattle.aqe_expr.specs.Casts.{fits_int}
 use Rattle.aqe_expr.specs.Meaning.{val, unary_value, binary_value, in_list as is_in_list, first_true, first_equal, first_present}
 use Rattle.aqe_trees.specs.declared.expression.CompareOp.{CompareOp}
@@ -27,7 +27,8 @@ use Rattle.aqe_trees.specs.declared.expression.Truth.{Truth}
 use Rattle.aqe_trees.specs.declared.expression.Truth.TheVariants as truth
 use Rattle.aqe_rules.specs.Outcomes.{Outcome, upon, present, provided}
 use Rattle.aqe_rules.specs.Kinds.{is_same_kind, is_number, is_truth, is_text, wider}
-use Rattle.aqe_rules.specs.Operations.{Typed, typed, mismatch, nearest, number, cast_to, converted, cast, common_kind, signed_by, signed_operation, arithmetic, product_operation, sum_operation, comparing, comparison, between, operands, in_list, like, is_operation, on_truth, negation, logical, otherwise_of, common_of_gives, common_of_tests, tested_as, case_pairs, case, coalesce, length_of}
+use Rattle.aqe_rules.specs.declared.typed.Typed.{Typed}
+use Rattle.aqe_rules.specs.Operations.{typed, mismatch, nearest, number, cast_to, converted, cast, common_kind, signed_by, signed_operation, arithmetic, product_operation, sum_operation, comparing, comparison, between, operands, in_list, like, is_operation, on_truth, negation, logical, otherwise_of, common_of_gives, common_of_tests, tested_as, case_pairs, case, coalesce, length_of}
 use Rattle.aqe_rules.proofs.Gives.{Gives, IfAny, gives_upon, gives_all, gives_provided}
 use Rattle.aqe_laws.proofs.OperationsBelow.{either_one}
 use Rattle.aqe_laws.proofs.Bounds.{passed}
@@ -61,11 +62,11 @@ cast_to-fits row sql.Text e = as_text_fits (val row e)
 compared_fits : (op : CompareOp) (v w : Value) → IsOf (binary_value (comparing op) v w) sql.Boolean
 compared_fits compare.Equal v w = truth_fits (equals v w)
 compared_fits compare.Same v w = tt
-compared_fits compare.NotEqual v w = truth_fits _
-compared_fits compare.Less v w = truth_fits _
-compared_fits compare.AtMost v w = truth_fits _
-compared_fits compare.Greater v w = truth_fits _
-compared_fits compare.AtLeast v w = truth_fits _
+compared_fits compare.NotEqual v w = truth_fits (differs v w)
+compared_fits compare.Less v w = truth_fits (less v w)
+compared_fits compare.AtMost v w = truth_fits (at_most v w)
+compared_fits compare.Greater v w = truth_fits (greater v w)
+compared_fits compare.AtLeast v w = truth_fits (at_least v w)
 
 -- a kind says nothing of values
 abbrev AnyKind : SqlType → Type 0

@@ -1,6 +1,6 @@
 -- Rows whose first values are of given types, and whose further values are those of aggregate calls.
 use Rattle.std.proofs.Common.{◌≡◌, ℕ, zero, suc, ◌+◌, Bool, true, false, cond, ◌&&◌, List, [], ◌∷◌, ◌++◌, map, fold, Option, Some, None, ℤ, refl, sym, subst, ap, ◌∙◌}
-use Rattle.std.specs.Prelude.{All, slice_index_or}
+use Rattle.std.specs.Prelude.{All, slice_index_or, unwrap_or}
 use Rattle.std.specs.List.{slice_get}
 use Rattle.std.proofs.lemmas.List.Elements.{All-nil, All-cons, All-head, All-tail, All-map, All-weaker}
 use Rattle.aqe_values.specs.declared.value.Value.{Value}
@@ -15,9 +15,10 @@ use Rattle.aqe_logical.specs.declared.plan.AggCall.{AggCall}
 use Rattle.aqe_logical.specs.declared.plan.AggFun.{AggFun}
 use Rattle.aqe_logical.specs.declared.plan.AggFun.TheVariants.{Count, Sum, Min, Max}
 use Rattle.aqe_logical.specs.Groups.{total_of, is_greater, first_of, ascending, descending, nothing, single, merged, folded, call_value}
-use Rattle.aqe_rules.specs.Operations.{Typed}
+use Rattle.aqe_rules.specs.declared.typed.Typed.{Typed}
 use Rattle.aqe_rules.specs.Equality.{same_expr}
-use Rattle.aqe_rules.specs.Readings.{Named, Call, same_fun, same_call, call_of, gives, takes}
+use Rattle.aqe_rules.specs.declared.names.Named.{Named}
+use Rattle.aqe_rules.specs.Readings.{Call, same_fun, same_call, call_of, gives, takes}
 use Rattle.aqe_laws.proofs.OperationsBelow.{either_one}
 use Rattle.aqe_laws.proofs.Same as same
 use Rattle.aqe_type_laws.specs.Fits.{IsOf}
@@ -36,7 +37,7 @@ front_column (j ∷ kinds) (suc n) k e [] h = tt
 front_column (j ∷ kinds) zero k e (v ∷ row) h = subst (λ i. IsOf v i) (the_same j k e) h.0
   where
     the_same : (i j : SqlType) → Some i ≡ Some j → i ≡ j
-    the_same i j e = cc
+    the_same i j e = ap (λ o. unwrap_or o i) e
 front_column (j ∷ kinds) (suc n) k e (v ∷ row) h = front_column kinds n k e row h.1
 
 -- a fold keeps what its start has and each step keeps

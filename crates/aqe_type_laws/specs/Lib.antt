@@ -1,1 +1,3 @@
 pub mod Fits
+pub mod Plans
+pub mod Laws
