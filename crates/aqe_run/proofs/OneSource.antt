@@ -38,12 +38,12 @@ use Rattle.aqe_rules.specs.Limits.{operator_limit, operator_count, most_columns,
 use Rattle.aqe_rules.specs.QueryForms.{Step}
 use Rattle.aqe_rules.specs.QueryTrees.{made_of_query, made_of_union, made_of_core, made_of_select, made_of_joined, made_of_step, made_of_source}
 use Rattle.aqe_rules.specs.Sources.{Catalog, From, item, from_of, columns_of, numbered, condition, table_named, scanned, table_source, query_source, join_condition, joined_items, join, join_all, cross_all, from_all, kept}
-use Rattle.aqe_rules.specs.Selects.{Output, at, with_aliases, outputs, group_keys, is_grouped, is_empty, built, having_condition}
+use Rattle.aqe_rules.specs.Selects.{Output, at, with_aliases, outputs, grouping_keys, is_grouped, is_empty, built, having_condition}
 use Rattle.aqe_rules.specs.Plans.{groups_of, filtered_by, fields_of, projected_to, distinct_if, sortings, hidden_columns, keys_of, sorted_by, without_hidden, hidden_output, shown_columns, no_hidden, ordered}
 use Rattle.aqe_rules.specs.Unions.{common_kinds, has_kinds, cast_columns, cast_fields, cast_side, union_of}
 use Rattle.aqe_rules.specs.Analysis.{Selected, plan_of, hide, sorted_plan, select_parts, calls_if, select_over, Core, unite_all, union_rule, cut, rules, walk, Analysed}
 use Rattle.aqe_rules.proofs.Gives.{Gives, IfAny, gives_upon, gives_provided}
-use Rattle.aqe_rules.proofs.OperationsBelow.{either_one}
+use Rattle.aqe_laws.proofs.OperationsBelow.{either_one}
 use Rattle.aqe_rules.proofs.QueryLevels as level
 use Rattle.aqe_built.specs.Built.{is_item_built, is_from_built, is_query_built, is_union_built, is_core_built, is_select_built, is_joined_built, is_source_built}
 use Rattle.aqe_built.proofs.BuiltParts as parts
@@ -146,9 +146,9 @@ module _ (distinct : Bool) (list : List ItemTree) (has_from : Bool) (filter : Op
   parts-keep : Filters P → P from.plan → Gives Known (select_parts distinct list has_from filter group having grouped all from)
   parts-keep filters h =
       gives_upon P Known (kept filter (with_aliases cols list []) from.plan)
-      (λ below. upon (group_keys has_from from.items (with_aliases cols list []) list group) (λ keys. with_keys below keys))
+      (λ below. upon (grouping_keys has_from from.items (with_aliases cols list []) list group) (λ keys. with_keys below keys))
       (kept-keeps P filters filter (with_aliases cols list []) from.plan h) (λ below p.
-      gives_after Known (group_keys has_from from.items (with_aliases cols list []) list group) (λ keys. with_keys below keys) (λ keys.
+      gives_after Known (grouping_keys has_from from.items (with_aliases cols list []) list group) (λ keys. with_keys below keys) (λ keys.
       gives_after Known (outputs (built grouped keys cols) has_from from.items (at cols all) 0 list) (λ outs. with_outputs below keys outs) (λ outs.
       gives_after Known (if_any (option_map (having_condition (built grouped keys cols) (with_aliases cols list all)) having)) (λ cond. Ok (made below keys outs cond)) (λ cond.
       (p, refl, refl)))))

@@ -18,7 +18,7 @@ use Rattle.aqe_trees.specs.declared.statement.Stmt.TheVariants as statement
 use Rattle.aqe_trees.specs.declared.statement.TableForm.{TableForm}
 use Rattle.aqe_tables.specs.declared.catalog.CatalogTable.{CatalogTable}
 use Rattle.aqe_rules.specs.Analysis.{Analysed}
-use Rattle.aqe_rules.proofs.QueryTrees.{well_formed}
+use Rattle.aqe_laws.proofs.QueryTrees.{well_formed}
 use Rattle.aqe_built.specs.Built.{is_query_built}
 use Rattle.aqe_analysis.specs.Catalogs.{seen}
 use Rattle.aqe_lists.specs.Forms.{IsNarrow, IsOfOneSource, scans}
