@@ -1,1 +1,2 @@
 mod KnownAnswers
+pub mod Words

@@ -4,19 +4,19 @@
 mod laws;
 mod listing;
 mod memory;
+mod placing;
 mod row;
 mod schema;
 mod size;
 mod sort_way;
 mod sql_type;
-#[cfg(test)]
-mod tests;
 mod text;
 mod value;
 
 pub use laws::{rows_equal_as_data, values_equal_as_data, values_ordered_by_type};
 pub use listing::Listing;
 pub use memory::Memory;
+pub use placing::{murmur, place_of};
 pub use row::{Row, Rows};
 pub use schema::{Field, Schema};
 pub use size::row_size;
