@@ -1,9 +1,9 @@
 //! Stores and sinks: the order of calls in whole runs, and what the real file system does.
 
 use aqe_store::{
-    Calls, FileStore, Files, MemorySink, MemoryStore, Name, Names, ReadFail, Sink, SinkFail,
-    StdSink, SteadyStore, Store, StoreCall, StoreFail, StoreKind, WriteNumbers, read_all,
-    write_all,
+    Calls, FileStore, Files, MemorySink, MemoryStore, Name, Names, ReadBuffer, ReadFail, Sink,
+    SinkFail, StdSink, SteadyStore, Store, StoreCall, StoreFail, StoreKind, WriteNumbers, read_all,
+    read_with, write_all,
 };
 use aqe_base::Bytes;
 use std::alloc::Global;
@@ -57,6 +57,18 @@ fn a_steady_store_lists_and_reads(rt: HostRuntime) -> Result<(), Fail> {
         )
     );
     assert!(rt; matches!(read_all(alloc, &mut store, "t", 9), Err(ReadFail::Missing)));
+    Ok(())
+}
+
+#[test]
+fn one_buffer_serves_for_many_files(rt: HostRuntime) -> Result<(), Fail> {
+    let alloc = rt.alloc();
+    let mut store = SteadyStore::new(alloc, table_files(alloc)?);
+    let mut buffer = ReadBuffer::new(alloc)?;
+    for (path, text) in [("t/a.csv", "12"), ("t/b.csv", ""), ("t/old/c.csv", "5")] {
+        let bytes = read_with(alloc, &mut store, &mut buffer, path, 2)?;
+        assert_eq!(rt; bytes.slice(), text.as_bytes());
+    }
     Ok(())
 }
 
