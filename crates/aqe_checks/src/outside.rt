@@ -1,11 +1,11 @@
 //! Stores and sinks: the order of calls in whole runs, and what the real file system does.
 
+use aqe_base::Bytes;
 use aqe_store::{
     Calls, FileStore, Files, MemorySink, MemoryStore, Name, Names, ReadBuffer, ReadFail, Sink,
     SinkFail, StdSink, SteadyStore, Store, StoreCall, StoreFail, StoreKind, WriteNumbers, read_all,
     read_with, write_all,
 };
-use aqe_base::Bytes;
 use std::alloc::Global;
 use std::test::Fail;
 use std::{fs, process};

@@ -209,7 +209,8 @@ fn copies_agree(alloc: Global, plan: &Logical) -> Result<bool, Fail> {
 #[test]
 fn each_form_of_an_expression_is_copied(rt: HostRuntime) -> Result<(), Fail> {
     let alloc = rt.alloc();
-    let source = "SELECT 1 + -2L, NOT TRUE, 2 BETWEEN 1 AND 3, 2 IN (1, NULL), CASE WHEN TRUE THEN 'x' END,
+    let source =
+        "SELECT 1 + -2L, NOT TRUE, 2 BETWEEN 1 AND 3, 2 IN (1, NULL), CASE WHEN TRUE THEN 'x' END,
         CASE 2 WHEN 1 THEN 3 WHEN 2 THEN 4 ELSE 5 END, coalesce(NULL, length('ab')), CAST('7' AS INT), ('a' LIKE 'b') IS TRUE";
     let script = script_of(alloc, source)?;
     let plan = plan_of(alloc, &script)?;

@@ -10,13 +10,19 @@ use std::test::Fail;
 
 const SCRIPT: &str =
     "CREATE TABLE t (a INT, b STRING) USING csv LOCATION 't'; SELECT 1; SELECT * FROM t";
+
 const FIRST: &str = "_c0\n1\n\\.\n";
+
 const BOTH: &str = "_c0\n1\n\\.\na\tb\n1\ta\n2\t\\N\n\\.\n";
 
 /// The script, its table and a file that it has no use for.
 fn files(alloc: Global) -> Result<Files, Fail> {
     let mut held = Files::new(alloc);
-    for (path, text) in [("q.sql", SCRIPT), ("t/0.csv", "1,a\n2,\n"), ("t/_x", "9,z\n")] {
+    for (path, text) in [
+        ("q.sql", SCRIPT),
+        ("t/0.csv", "1,a\n2,\n"),
+        ("t/_x", "9,z\n"),
+    ] {
         let bytes = Bytes::from_vec(Vec::from_slice(alloc, text.as_bytes())?);
         held.push((Name::copy_of(alloc, path)?, bytes))?;
     }
@@ -116,7 +122,10 @@ fn a_run_over_a_steady_store_is_done(rt: HostRuntime) -> Result<(), Fail> {
     let alloc = rt.alloc();
     let mut out = sink(alloc, 1000)?;
     let mut err = sink(alloc, 1000)?;
-    assert_eq!(rt; steady_end(alloc, "q.sql", &mut out, &mut err)?, Status::Done);
+    assert_eq!(rt;
+        steady_end(alloc, "q.sql", &mut out, &mut err)?,
+        Status::Done
+    );
     assert_eq!(rt; out.bytes(), BOTH.as_bytes());
     assert_eq!(rt; err.bytes().len(), 0);
     Ok(())
@@ -127,7 +136,10 @@ fn a_script_that_is_not_held_is_missing(rt: HostRuntime) -> Result<(), Fail> {
     let alloc = rt.alloc();
     let mut out = sink(alloc, 1000)?;
     let mut err = sink(alloc, 1000)?;
-    assert_eq!(rt; steady_end(alloc, "none.sql", &mut out, &mut err)?, Status::Missing);
+    assert_eq!(rt;
+        steady_end(alloc, "none.sql", &mut out, &mut err)?,
+        Status::Missing
+    );
     assert_eq!(rt; out.bytes().len(), 0);
     assert_eq!(rt; err.bytes(), b"aqe: Missing none.sql\n".as_slice());
     Ok(())
@@ -166,7 +178,10 @@ fn a_failing_err_changes_nothing(rt: HostRuntime) -> Result<(), Fail> {
     let alloc = rt.alloc();
     let mut out = sink(alloc, 1000)?;
     let mut err = failing_sink(alloc, 1)?;
-    assert_eq!(rt; steady_end(alloc, "none.sql", &mut out, &mut err)?, Status::Missing);
+    assert_eq!(rt;
+        steady_end(alloc, "none.sql", &mut out, &mut err)?,
+        Status::Missing
+    );
     assert_eq!(rt; out.bytes().len() + err.bytes().len(), 0);
     Ok(())
 }

@@ -95,7 +95,11 @@ fn options_are_checked(rt: HostRuntime) -> Result<(), Fail> {
         ("seps", "~", true),
         ("quote", "'", true),
     ] {
-        assert_eq!(rt; is_bad_option(rt.alloc(), key, value)?, refused, "{key} {value}");
+        assert_eq!(rt;
+            is_bad_option(rt.alloc(), key, value)?,
+            refused,
+            "{key} {value}"
+        );
     }
     Ok(())
 }
@@ -112,8 +116,14 @@ fn told_option(alloc: Global, first: &str, second: &str) -> Result<String, Fail>
 #[test]
 fn an_option_stands_once(rt: HostRuntime) -> Result<(), Fail> {
     assert_eq!(rt; told_option(rt.alloc(), "sep", "SEP")?.as_str(), "SEP");
-    assert_eq!(rt; told_option(rt.alloc(), "sep", "Delimiter")?.as_str(), "Delimiter");
-    assert_eq!(rt; told_option(rt.alloc(), "header", "seps")?.as_str(), "header");
+    assert_eq!(rt;
+        told_option(rt.alloc(), "sep", "Delimiter")?.as_str(),
+        "Delimiter"
+    );
+    assert_eq!(rt;
+        told_option(rt.alloc(), "header", "seps")?.as_str(),
+        "header"
+    );
     Ok(())
 }
 
