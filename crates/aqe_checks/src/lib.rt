@@ -14,4 +14,6 @@ mod sources;
 #[cfg(test)]
 mod tables;
 #[cfg(test)]
+mod tokens;
+#[cfg(test)]
 mod values;

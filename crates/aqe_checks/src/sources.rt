@@ -238,7 +238,24 @@ fn lossy(alloc: Global, bytes: &[u8]) -> Result<String, AllocError> {
 #[test]
 fn spells_what_it_reads(rt: HostRuntime) -> Result<(), AllocError> {
     let alloc = rt.alloc();
-    let cases: [(&str, &str); 4] = [
+    let cases: [(&str, &str); 9] = [
+        ("", ""),
+        (
+            "SELECT _a1, `order`, `x``y`, `1a` FROM t `On`",
+            "SELECT _a1 , `order` , `x``y` , `1a` FROM t AS `On` ;\n",
+        ),
+        (
+            "SELECT 'it\\'s \\\\ \"é\"', -9223372036854775808l, 0",
+            "SELECT 'it\\'s \\\\ \"é\"' , - 9223372036854775808L , 0 ;\n",
+        ),
+        (
+            "SET spark.x = '64MB -- \\''; create table table (a int, b string) using csv options (header true) location 'd'",
+            "SET spark.x = '64MB -- \\'' ;\nCREATE TABLE table ( a INT , b STRING ) USING CSV OPTIONS ( 'header' 'true' ) LOCATION 'd' ;\n",
+        ),
+        (
+            "SELECT DISTINCT CASE a WHEN 1 THEN 'x' ELSE NULL END FROM t LEFT OUTER JOIN u ON a == b WHERE NOT a IN (1, 2) UNION ALL (SELECT *) ORDER BY a DESC NULLS FIRST LIMIT 3",
+            "SELECT DISTINCT CASE a WHEN 1 THEN 'x' ELSE NULL END FROM t LEFT JOIN u ON a = b WHERE NOT a IN ( 1 , 2 ) UNION ALL ( SELECT * ) ORDER BY a DESC NULLS FIRST LIMIT 3 ;\n",
+        ),
         (
             "SELECT a FROM (SELECT a FROM s ORDER BY a) WHERE a > 1 LIMIT 2",
             "SELECT a FROM ( SELECT a FROM s ORDER BY a ) WHERE a > 1 LIMIT 2 ;\n",
