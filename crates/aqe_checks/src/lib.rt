@@ -6,6 +6,8 @@
 #[cfg(test)]
 mod outside;
 #[cfg(test)]
+mod placing;
+#[cfg(test)]
 mod plans;
 #[cfg(test)]
 mod runs;

@@ -1,6 +1,6 @@
 //! Texts, rows and lists, with ample memory.
 
-use aqe_base::Bytes;
+use aqe_base::{Bytes, Rect, Rects, Sizes, StageId, StageList};
 use aqe_values::{Row, Rows, Text, Value};
 use std::test::Fail;
 
@@ -11,6 +11,24 @@ fn bytes_keep_their_order(rt: HostRuntime) -> Result<(), Fail> {
     bytes.push(105)?;
     assert_eq!(rt; bytes.slice(), b"hi".as_slice());
     assert_eq!(rt; bytes.into_vec().len(), 2);
+    Ok(())
+}
+
+#[test]
+fn lists_of_numbers_take_an_item(rt: HostRuntime) -> Result<(), Fail> {
+    let alloc = rt.alloc();
+    let mut sizes = Sizes::new(alloc);
+    sizes.push(7)?;
+    let mut stages = StageList::new(alloc);
+    stages.push(StageId(3))?;
+    let mut rects = Rects::new(alloc);
+    rects.push(Rect {
+        m0: 0,
+        m1: 1,
+        r0: 2,
+        r1: 3,
+    })?;
+    assert_eq!(rt; sizes.len() + stages.len() + rects.len(), 3);
     Ok(())
 }
 
