@@ -171,7 +171,7 @@ fn script_of(alloc: Global, source: &str) -> Result<Script, Fail>
 }
 
 /// The plan of a query without tables that is a script's only statement.
-fn plan_of(alloc: Global, script: &Script) -> Result<Logical, Fail> {
+fn planned(alloc: Global, script: &Script) -> Result<Logical, Fail> {
     let [Stmt::Query(query)] = script.slice() else {
         return Err(Fail::new("no query"));
     };
@@ -184,25 +184,33 @@ fn plan_of(alloc: Global, script: &Script) -> Result<Logical, Fail> {
     }
 }
 
-/// Whether expressions without columns have the same values.
-fn agree(alloc: Global, some: &[Expr], others: &[Expr]) -> Result<bool, Fail> {
-    let row = Row::new(alloc);
-    let mut same = some.len() == others.len();
-    for (one, other) in some.iter().zip(others.iter()) {
-        let (one, other) = (eval(alloc, one, &row)?, eval(alloc, other, &row)?);
-        same = same && one == other;
-    }
-    Ok(same)
+fn plan_of(alloc: Global, source: &str) -> Result<Logical, Fail>
+    requires { length source.now ≤ 67108864 }
+{
+    let script = script_of(alloc, source)?;
+    planned(alloc, &script)
 }
 
-/// Whether the items of a copy of the plan have the same values.
-fn copies_agree(alloc: Global, plan: &Logical) -> Result<bool, Fail> {
+/// How many expressions without columns have the same values.
+fn agreeing(alloc: Global, some: &[Expr], others: &[Expr]) -> Result<u64, Fail> {
+    let row = Row::new(alloc);
+    let mut count: u64 = 0;
+    for (one, other) in some.iter().zip(others.iter()) {
+        if eval(alloc, one, &row)? == eval(alloc, other, &row)? {
+            count = count.wrapping_add(1);
+        }
+    }
+    Ok(count)
+}
+
+/// How many items of a copy of the plan have the same values.
+fn agreeing_items(alloc: Global, plan: &Logical) -> Result<u64, Fail> {
     let copied = copy(alloc, plan)?;
     match (plan, &copied) {
         (Logical::Project { items, .. }, Logical::Project { items: others, .. }) => {
-            agree(alloc, items.slice(), others.slice())
+            agreeing(alloc, items.slice(), others.slice())
         }
-        _ => Ok(false),
+        _ => Ok(0),
     }
 }
 
@@ -212,9 +220,8 @@ fn each_form_of_an_expression_is_copied(rt: HostRuntime) -> Result<(), Fail> {
     let source =
         "SELECT 1 + -2L, NOT TRUE, 2 BETWEEN 1 AND 3, 2 IN (1, NULL), CASE WHEN TRUE THEN 'x' END,
         CASE 2 WHEN 1 THEN 3 WHEN 2 THEN 4 ELSE 5 END, coalesce(NULL, length('ab')), CAST('7' AS INT), ('a' LIKE 'b') IS TRUE";
-    let script = script_of(alloc, source)?;
-    let plan = plan_of(alloc, &script)?;
-    assert_eq!(rt; schema_of(alloc, &plan)?.len(), 9);
-    assert!(rt; copies_agree(alloc, &plan)?);
+    let plan = plan_of(alloc, source)?;
+    let count = agreeing_items(alloc, &plan)?;
+    assert_eq!(rt; count, 9);
     Ok(())
 }
