@@ -1,11 +1,12 @@
 -- Statements and scripts: from the reading of the parts to that of the whole.
-use Rattle.std.proofs.Common.{ℕ, List, [], ◌∷◌, ◌++◌, Bool, true, false, ◌≡◌, ◌<◌, length, refl, sym, ap, subst, arith, lit<, Result, Ok, Err, MatchResult, MatchOption, Bor}
-use Rattle.std.specs.Prelude.{Option, Some, None, Any}
+use Rattle.std.proofs.Common.{ℕ, List, [], ◌∷◌, ◌++◌, Bool, true, false, ◌≡◌, ◌<◌, ◌⊎◌, inl, inr, length, refl, sym, ap, subst, arith, lit<, Result, Ok, Err, MatchResult, MatchOption, Bor}
+use Rattle.std.specs.Prelude.{Option, Some, None, All, Any, ◌≤◌}
 use Rattle.std.specs.List.{slice_get}
 use Rattle.std.proofs.lemmas.Option.{slice_get_within, get_or_from_slice_get}
 use Rattle.std.proofs.lemmas.List.{append-nil}
 use Rattle.std.proofs.Math.Seq.{append_snoc}
 use Rattle.aqe_lexer.specs.declared.token.Token.{Token}
+use Rattle.aqe_lexer.specs.Spans.{StandsIn}
 use Rattle.aqe_trees.specs.declared.terminal.Key.{Key}
 use Rattle.aqe_trees.specs.declared.terminal.Key.TheVariants as k
 use Rattle.aqe_trees.specs.declared.terminal.Terminal.{Terminal}
@@ -22,7 +23,7 @@ use Rattle.aqe_trees.specs.Tables.{IsCreate, create}
 use Rattle.aqe_reader.specs.declared.fault.ReadFault.{ReadFault}
 use Rattle.aqe_reader.specs.declared.fault.ReadFault.TheVariants as read
 use Rattle.aqe_syntax.specs.declared.fault.SyntaxFault.{SyntaxFault}
-use Rattle.aqe_syntax.specs.Causes.{IsPlaced, IsNoScript}
+use Rattle.aqe_syntax.specs.Causes.{IsTokenPlace, IsPlaced, IsNoScript}
 use Rattle.aqe_reader.specs.Reading.{Read, Refuses, IsRefusal}
 use Rattle.aqe_script.specs.Terminals.{terminals_of}
 use Rattle.aqe_script.specs.Settings.{IsSet, set}
@@ -189,9 +190,23 @@ pub script_fault : (source : List ℕ) (tokens : List Token) (e : SyntaxFault) {
     IsPlaced f source tokens e → IsNoScript source tokens e
 script_fault source tokens e f more c m n p = placed_cause source tokens e f p (λ r. let known = cut_first source more m in script_refused c known.1 (n r))
 
--- a token of the list begins at its place
-pub token_place : (tokens : List Token) (i : ℕ) (t : Token) → slice_get tokens i ≡ Some t → Any (λ (x : Token). x.start ≡ t.start) tokens
-token_place tokens i t e = (i, t, slice_get_within tokens i t e, get_or_from_slice_get tokens i t t e, refl)
+-- the place of a token, and the source's end
+
+token_begins : (tokens : List Token) (i : ℕ) (t : Token) → slice_get tokens i ≡ Some t → Any (λ (x : Token). x.start ≡ t.start) tokens
+token_begins tokens i t e = (i, t, slice_get_within tokens i t e, get_or_from_slice_get tokens i t t e, refl)
+
+token_at : {source : List ℕ} (tokens : List Token) (i : ℕ) (t : Token) → All (StandsIn source) tokens → slice_get tokens i ≡ Some t → StandsIn source t
+token_at {source = source} tokens i t a e = subst (StandsIn source) (get_or_from_slice_get tokens i t t e) (a i t (slice_get_within tokens i t e))
+
+start_within : {source : List ℕ} {t : Token} → StandsIn source t → t.start ≤ length source
+start_within s = let a = s.some in let b = s.within in omega arith
+
+pub token_place : (source : List ℕ) (tokens : List Token) (i : ℕ) (t : Token) → All (StandsIn source) tokens → slice_get tokens i ≡ Some t →
+    IsTokenPlace source tokens t.start
+token_place source tokens i t a e = (start_within (token_at tokens i t a e), inl (token_begins tokens i t e))
+
+pub end_place : (source : List ℕ) (tokens : List Token) (at : ℕ) → at ≡ length source → IsTokenPlace source tokens at
+end_place source tokens at e = (omega arith, inr e)
 
 -- one part
 

@@ -4,7 +4,7 @@ ghost use Rattle.std.specs.Prelude.{◌≡◌, ◌≤◌, length, All, Any, IfOk
 ghost use Rattle.aqe_values.specs.Bounds.{text_limit};
 ghost use Rattle.aqe_lexer.specs.Spans.{StandsIn, InOrder};
 ghost use Rattle.aqe_script.specs.Statements.{IsScript};
-ghost use Rattle.aqe_syntax.specs.Causes.{IsPlaced, IsNoScript};
+ghost use Rattle.aqe_syntax.specs.Causes.{IsTokenPlace, IsPlaced, IsNoScript};
 
 use crate::SyntaxFault;
 use crate::statements::add;
@@ -13,6 +13,17 @@ use aqe_reader::ReadFault;
 use aqe_script::cut;
 use aqe_trees::Script;
 use std::alloc::Global;
+
+/// Where the token begins that stands at the index, or the source's length where none does.
+fn place_of(source: &str, tokens: &[Token], index: usize) -> u64
+    requires { All (StandsIn source.now) tokens.now }
+    ensures { IsTokenPlace source.now tokens.now result }
+{
+    match tokens.get(index) {
+        Some(token) => token.start,
+        None => source.len() as u64,
+    }
+}
 
 /// The fault of a part of the tokens, told by the place of the token with which no sentence goes on.
 ///
@@ -25,11 +36,9 @@ fn placed(source: &str, tokens: &[Token], behind: usize, fault: ReadFault) -> Sy
         return SyntaxFault::Memory;
     };
     let index = tokens.len().saturating_sub(left.saturating_add(behind));
-    let at = match tokens.get(index) {
-        Some(token) => token.start,
-        None => source.len() as u64,
-    };
-    SyntaxFault::NotASentence { at }
+    SyntaxFault::NotASentence {
+        at: place_of(source, tokens, index),
+    }
 }
 
 /// The statements that the tokens are, whatever their depth.
