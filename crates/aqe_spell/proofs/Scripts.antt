@@ -18,7 +18,7 @@ use Rattle.aqe_trees.specs.declared.statement.TableForm.{TableForm}
 use Rattle.aqe_trees.specs.declared.terminal.Terminal.{Terminal}
 use Rattle.aqe_trees.specs.Queries.{IsQuery, query_of, IsUnion, union_of, IsCore, core_paren, core_select}
 use Rattle.aqe_trees.specs.Tables.{IsCreate, create}
-use Rattle.aqe_script.specs.Reserved.{symbol_key}
+use Rattle.aqe_trees.specs.Keywords.{symbol_key}
 use Rattle.aqe_script.specs.Terminals.{terminal_of, terminals_of}
 use Rattle.aqe_script.specs.Statements.{IsStatement, is_semicolon, parts, parts_of, AreStatements, finished, nothing, statement}
 use Rattle.aqe_script.specs.Statements.IsStatement.{create as said_create, query as said_query}

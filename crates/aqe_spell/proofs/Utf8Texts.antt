@@ -12,7 +12,8 @@ use Rattle.aqe_trees.specs.declared.terminal.Key.{Key}
 use Rattle.aqe_trees.specs.declared.terminal.Key.TheVariants as k
 use Rattle.aqe_trees.specs.declared.terminal.Terminal.{Terminal}
 use Rattle.aqe_trees.specs.declared.terminal.Terminal.TheVariants.{Fixed, Name, Literal, Number, Mixed}
-use Rattle.aqe_spell.specs.Texts.{key_text, doubled, escaped, name_text, literal_text, long_text, word_of, spaced, text_of}
+use Rattle.aqe_trees.specs.Keywords.{key_text}
+use Rattle.aqe_spell.specs.Texts.{doubled, escaped, name_text, literal_text, long_text, word_of, spaced, text_of}
 use Rattle.aqe_spell.specs.Written.{Sound, AllSound}
 
 pub one_ascii : (b : ℕ) → b < 128 → IsUtf8 (b ∷ [])

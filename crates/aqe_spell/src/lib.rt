@@ -8,8 +8,6 @@ mod query;
 mod query_leaf;
 mod statement;
 mod table;
-#[cfg(test)]
-mod tests;
 mod word;
 
 pub use statement::spell;

@@ -8,82 +8,10 @@ ghost use Rattle.aqe_lexer.specs.Bytes as bytes;
 ghost use Rattle.aqe_spell.specs.Texts as texts;
 ghost use Rattle.aqe_spell.specs.Written.{Adds, Sound};
 
-use aqe_lexer::is_reserved;
-use aqe_trees::Key;
+use aqe_trees::{Key, key_text, word_key};
 use aqe_values::Text;
 use itoa::Buffer;
 use std::alloc::AllocError;
-
-/// A reserved word in capitals, or a symbol.
-fn key_text(key: Key) -> &'static str
-    ensures { result.now ≡ texts.key_text key }
-{
-    match key {
-        Key::All => "ALL",
-        Key::And => "AND",
-        Key::Anti => "ANTI",
-        Key::As => "AS",
-        Key::Asc => "ASC",
-        Key::Between => "BETWEEN",
-        Key::By => "BY",
-        Key::Case => "CASE",
-        Key::Cast => "CAST",
-        Key::Create => "CREATE",
-        Key::Cross => "CROSS",
-        Key::Desc => "DESC",
-        Key::Distinct => "DISTINCT",
-        Key::Div => "DIV",
-        Key::Else => "ELSE",
-        Key::End => "END",
-        Key::False => "FALSE",
-        Key::From => "FROM",
-        Key::Full => "FULL",
-        Key::Group => "GROUP",
-        Key::Having => "HAVING",
-        Key::In => "IN",
-        Key::Inner => "INNER",
-        Key::Is => "IS",
-        Key::Join => "JOIN",
-        Key::Left => "LEFT",
-        Key::Like => "LIKE",
-        Key::Limit => "LIMIT",
-        Key::Not => "NOT",
-        Key::Null => "NULL",
-        Key::Nulls => "NULLS",
-        Key::Offset => "OFFSET",
-        Key::On => "ON",
-        Key::Or => "OR",
-        Key::Order => "ORDER",
-        Key::Outer => "OUTER",
-        Key::Right => "RIGHT",
-        Key::Select => "SELECT",
-        Key::Semi => "SEMI",
-        Key::Set => "SET",
-        Key::Then => "THEN",
-        Key::True => "TRUE",
-        Key::Union => "UNION",
-        Key::Using => "USING",
-        Key::When => "WHEN",
-        Key::Where => "WHERE",
-        Key::Open => "(",
-        Key::Close => ")",
-        Key::Comma => ",",
-        Key::Dot => ".",
-        Key::Semicolon => ";",
-        Key::Star => "*",
-        Key::Plus => "+",
-        Key::Minus => "-",
-        Key::Percent => "%",
-        Key::Equal => "=",
-        Key::DoubleEqual => "==",
-        Key::Same => "<=>",
-        Key::NotEqual => "<>",
-        Key::Less => "<",
-        Key::AtMost => "<=",
-        Key::Greater => ">",
-        Key::AtLeast => ">=",
-    }
-}
 
 /// Writes a reserved word or a symbol, other than the one that parts statements.
 pub(crate) fn fixed(out: &mut Vec<u8>, key: Key) -> Result<(), AllocError>
@@ -117,10 +45,10 @@ fn is_word(text: &[u8]) -> bool
 }
 
 /// Whether the name stands as it is.
-fn is_bare(text: &[u8]) -> bool
+fn is_bare(text: &str) -> bool
     ensures { result ≡ texts.is_bare text.now }
 {
-    begins_word(text) && is_word(text) && !is_reserved(text)
+    begins_word(text.as_bytes()) && is_word(text.as_bytes()) && word_key(text).is_none()
 }
 
 /// Writes a byte within backquotes.
@@ -180,11 +108,11 @@ pub(crate) fn name(out: &mut Vec<u8>, text: &Text) -> Result<(), AllocError>
     ensures { OnOk result (0 < length text.now
         → Adds (λ us. Name text.now (not (texts.is_bare text.now)) ∷ us) out.old.items out.new.items) }
 {
-    let name = text.as_str().as_bytes();
+    let name = text.as_str();
     if is_bare(name) {
-        out.extend_from_slice(name)?;
+        out.extend_from_slice(name.as_bytes())?;
     } else {
-        quoted(out, name)?;
+        quoted(out, name.as_bytes())?;
     }
     out.push(b' ')?;
     Ok(())
