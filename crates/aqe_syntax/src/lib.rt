@@ -1,6 +1,7 @@
 //! The reader of scripts: from tokens to the trees that they spell, proved against the grammar in both directions; and back to a text.
 #![tactic(auto)]
 
+mod boxes;
 mod fault;
 mod joins;
 mod parsing;
@@ -9,11 +10,15 @@ mod queries;
 mod scripts;
 mod statements;
 mod tables;
-#[cfg(test)]
-mod tests;
 mod words;
 
 pub use aqe_spell::spell;
+pub use aqe_trees::{
+    AndTree, Arm, ColumnForms, CompareOp, ComparisonTree, CoreTree, ItemTree, JoinStep, JoinedTree,
+    NotTree, OptionForms, OrTree, PredicateTree, PrimaryTree, ProductOp, ProductTree, QueryTree,
+    Script, SelectTree, SetForm, Sign, SignTree, SortTree, SourceTree, Stmt, SumTree, TableForm,
+    Test, Truth, UnionTree,
+};
 pub use fault::SyntaxFault;
 pub use parsing::parse;
 pub use queries::query;
