@@ -4,4 +4,5 @@
 mod run;
 mod words;
 
+pub use aqe_texts::{result_text, texts_tell_rows};
 pub use run::{refused_words, run_words};
