@@ -74,10 +74,11 @@ all_rest P ms left n e h = All-tail P n ms (subst (All P) e h)
 
 -- a table that is not loaded is not among those that were
 pub all_left : (s t : Slots) (numbers ms left : List ℕ) (n : ℕ) → left ≡ n ∷ ms → ((m : ℕ) → IsLoaded s m → IsLoaded t m)
-    → ((P : ℕ → Type 0) → All P numbers → All P left) → (IsLoaded t n → ⊥) → AreMissing s numbers
-all_left s t numbers ms left n e stays within free all =
-    let here : All (λ m. IsLoaded s m) (n ∷ ms) = subst (All (λ m. IsLoaded s m)) e (within (λ m. IsLoaded s m) all) in
-    free (stays n (All-head (λ m. IsLoaded s m) n ms here))
+    → (All (λ m. IsLoaded s m) numbers → All (λ m. IsLoaded s m) left) → (IsLoaded t n → ⊥) → AreMissing s numbers
+all_left s t numbers ms left n e stays within free whole =
+    let those : All (λ m. IsLoaded s m) (n ∷ ms) = subst (All (λ m. IsLoaded s m)) e (within whole) in
+    free (stays n (All-head (λ m. IsLoaded s m) n ms those))
 
-pub within_rest : (P : ℕ → Type 0) (numbers ms left : List ℕ) (n : ℕ) → left ≡ n ∷ ms → (All P numbers → All P left) → All P numbers → All P ms
-within_rest P numbers ms left n e h all = all_rest P ms left n e (h all)
+pub within_rest : (s : Slots) (numbers ms left : List ℕ) (n : ℕ) → left ≡ n ∷ ms → (All (λ m. IsLoaded s m) numbers → All (λ m. IsLoaded s m) left)
+    → All (λ m. IsLoaded s m) numbers → All (λ m. IsLoaded s m) ms
+within_rest s numbers ms left n e h whole = all_rest (λ m. IsLoaded s m) ms left n e (h whole)

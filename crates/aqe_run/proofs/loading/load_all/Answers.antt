@@ -21,7 +21,7 @@ tables-preserved g c = record {
   covers = covers_next c.tables.tables c.load_one.new.tables c.in-Some.rest.now c.tables.left.now c.args.numbers.now c.in-Some.table c.in-Some.ensures c.tables.invariant.covers
       c.in_ok-load_one.ensures.stays c.in_ok-load_one.ensures.loaded;
   stays = λ n l. c.in_ok-load_one.ensures.stays n (c.tables.invariant.stays n l);
-  left = λ P h. within_rest P c.args.numbers.now c.in-Some.rest.now c.tables.left.now c.in-Some.table c.in-Some.ensures (c.tables.invariant.left P) h;
+  left = λ h. within_rest c.args.tables.now c.args.numbers.now c.in-Some.rest.now c.tables.left.now c.in-Some.table c.in-Some.ensures c.tables.invariant.left h;
   within = all_rest (λ n. n < length c.args.catalog.now) c.in-Some.rest.now c.tables.left.now c.in-Some.table c.in-Some.ensures c.tables.invariant.within;
 }
 

@@ -14,7 +14,7 @@ invariant-tables g l = record {
   behind : WhereTold (g.S.Store.files l.fn.store) (λ files. Behind files l.catalog l.fn.tables l.numbers l.tables l.left);
   covers : Covers l.tables l.left l.numbers;
   stays : (n : ℕ) → IsLoaded l.fn.tables n → IsLoaded l.tables n;
-  left : (P : ℕ → Type 0) → All P l.numbers → All P l.left;
+  left : All (λ n. IsLoaded l.fn.tables n) l.numbers → All (λ n. IsLoaded l.fn.tables n) l.left;
   within : All (λ n. n < length l.catalog) l.left;
 }
 

@@ -1,19 +1,22 @@
-use Rattle.std.proofs.Common.{arith, ap, length, refl, rules, ◌∙◌}
+use Rattle.std.proofs.Common.{◌≡◌, arith, ap, length, refl, rules, ◌∙◌}
 use Rattle.std.proofs.lemmas.Result.{err_from_is_err_and}
 use Rattle.aqe_tables.proofs.LoadFacts.{keeps_through}
 use Rattle.aqe_run.proofs.ScriptFacts.{begun_told, carried_told, rest_built, stopped_told}
+use Rattle.aqe_course.specs.Course.{State}
 use Rattle.aqe_run.specs.Steps.{state_of}
 use Rattle.aqe_run.proofs.run.all_carried_out.Goals as goal
 
 pub statements-init : goal.statements-init
-statements-init g c = rw c.new-made.ensures (record {
+statements-init g c =
+    let none : length c.new-made.result.catalog ≡ 0 = ap (λ (s : State). length s.catalog) c.new-made.ensures in
+    rw c.new-made.ensures (record {
   keeps = search rules;
   faults = refl;
   misses = refl;
   written = refl;
   so_far = begun_told (g.S.Store.files c.args.store.now) c.args.script.now (g.O.Sink.taken c.args.out.now);
   built = c.requires.built;
-  few = omega arith;
+  few = omega (arith, none);
 })
 
 pub returns-in_err-carried_out-clause-early : goal.returns-in_err-carried_out-clause-early
