@@ -1,0 +1,4 @@
+pub mod ReadingSteps
+pub mod ReplacingSteps
+pub mod Values
+pub mod Together

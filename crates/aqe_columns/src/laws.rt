@@ -1,0 +1,14 @@
+//! Laws of the definitions, each the contract of a function that does nothing.
+
+ghost use Rattle.aqe_columns.specs.Laws.{PartsHoldTogether, ReplacementKeepsTheValue};
+
+/// An expression with its columns replaced has, over a row, the value of the expression over the
+/// row of the values that they are replaced by.
+pub fn replacement_keeps_the_value()
+    ensures { ReplacementKeepsTheValue }
+{}
+
+/// All parts of a condition hold of a row exactly where the condition does.
+pub fn parts_hold_together()
+    ensures { PartsHoldTogether }
+{}
