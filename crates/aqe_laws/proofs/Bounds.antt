@@ -5,7 +5,9 @@ use Rattle.aqe_expr.specs.Columns.{ColumnsBelow}
 use Rattle.aqe_logical.specs.declared.plan.Logical.{Logical, OneRow, Scan, Empty, Held, HeldPartial}
 use Rattle.aqe_logical.specs.Shapes.{filtered, projected, joined, aggregated, united, sorted, limited, sampled}
 use Rattle.aqe_logical.specs.Columns.{width}
-use Rattle.aqe_logical.specs.WellFormed.{WellFormed, Sound, Closed, IsLimitCount, IsLimitNumber, ItemsBelow, CallsBelow, KeysBelow, leaf_count, column_limit}
+use Rattle.aqe_logical.specs.Nodes.{leaf_count, is_leaf}
+use Rattle.aqe_logical.specs.WellFormed.{WellFormed, Sound, IsSound, Closed, IsOfAQuery, IsLimitCount, IsLimitNumber, ItemsBelow, CallsBelow, KeysBelow, column_limit}
+use Rattle.aqe_logical.proofs.Nodes.{Each, all_nodes, count_two}
 use Rattle.aqe_rules.specs.Outcomes.{Check, Outcome, provided, too_many_operators, too_many_columns}
 use Rattle.aqe_rules.specs.Limits.{operator_limit, operator_count, most_columns, within_limits}
 use Rattle.aqe_rules.proofs.Gives.{Gives}
@@ -27,36 +29,42 @@ Laid (Held stage place schema) = ⊥
 Laid (HeldPartial stage calls schema) = ⊥
 Laid (sampled stage child) = ⊥
 
+laid-each : (p : Logical) → Laid p → Each IsOfAQuery p
+laid-each OneRow h = tt
+laid-each (Scan table schema) h = tt
+laid-each (filtered condition child) (h, k) = (tt, laid-each child h)
+laid-each (projected items schema child) (h, k, l) = (tt, laid-each child h)
+laid-each (joined kind condition left right) (h, k, l) = (tt, laid-each left h, laid-each right k)
+laid-each (aggregated keys calls schema child) (h, k, l, m) = (tt, laid-each child h)
+laid-each (united left right) (h, k, l) = (tt, laid-each left h, laid-each right k)
+laid-each (sorted keys child) (h, k) = (tt, laid-each child h)
+laid-each (limited count skip child) (h, k, l) = (tt, laid-each child h)
+laid-each (Empty schema) h = absurd h
+laid-each (Held stage place schema) h = absurd h
+laid-each (HeldPartial stage calls schema) h = absurd h
+laid-each (sampled stage child) h = absurd h
+
 pub laid-closed : (p : Logical) → Laid p → Closed p
-laid-closed OneRow h = tt
-laid-closed (Scan table schema) h = tt
-laid-closed (filtered condition child) (h, k) = laid-closed child h
-laid-closed (projected items schema child) (h, k, l) = laid-closed child h
-laid-closed (joined kind condition left right) (h, k, l) = (laid-closed left h, laid-closed right k)
-laid-closed (aggregated keys calls schema child) (h, k, l, m) = laid-closed child h
-laid-closed (united left right) (h, k, l) = (laid-closed left h, laid-closed right k)
-laid-closed (sorted keys child) (h, k) = laid-closed child h
-laid-closed (limited count skip child) (h, k, l) = laid-closed child h
-laid-closed (Empty schema) h = absurd h
-laid-closed (Held stage place schema) h = absurd h
-laid-closed (HeldPartial stage calls schema) h = absurd h
-laid-closed (sampled stage child) h = absurd h
+laid-closed p h = all_nodes IsOfAQuery p (laid-each p h)
+
+sound-each : (p : Logical) → Laid p → most_columns p ≤ 256 → Each IsSound p
+sound-each OneRow h le = tt
+sound-each (Scan table schema) h le = le
+sound-each (filtered condition child) (h, k) le = (k, sound-each child h le)
+sound-each (projected items schema child) (h, k, l) le = ((k, omega (arith, le, k), l), sound-each child h (omega (arith, le)))
+sound-each (joined kind condition left right) (h, k, l) le =
+    ((omega (arith, le), l), sound-each left h (omega (arith, le)), sound-each right k (omega (arith, le)))
+sound-each (aggregated keys calls schema child) (h, k, l, m) le = ((k, omega (arith, le, k), l, m), sound-each child h (omega (arith, le)))
+sound-each (united left right) (h, k, l) le = (l, sound-each left h (omega (arith, le)), sound-each right k (omega (arith, le)))
+sound-each (sorted keys child) (h, k) le = ((omega (arith, le), k), sound-each child h (omega (arith, le)))
+sound-each (limited count skip child) (h, k, l) le = ((k, l), sound-each child h le)
+sound-each (Empty schema) h le = absurd h
+sound-each (Held stage place schema) h le = absurd h
+sound-each (HeldPartial stage calls schema) h le = absurd h
+sound-each (sampled stage child) h le = absurd h
 
 laid-sound : (p : Logical) → Laid p → most_columns p ≤ 256 → Sound p
-laid-sound OneRow h le = tt
-laid-sound (Scan table schema) h le = le
-laid-sound (filtered condition child) (h, k) le = (laid-sound child h le, k)
-laid-sound (projected items schema child) (h, k, l) le = (laid-sound child h (omega (arith, le)), k, omega (arith, le, k), l)
-laid-sound (joined kind condition left right) (h, k, l) le =
-    (laid-sound left h (omega (arith, le)), laid-sound right k (omega (arith, le)), omega (arith, le), l)
-laid-sound (aggregated keys calls schema child) (h, k, l, m) le = (laid-sound child h (omega (arith, le)), k, omega (arith, le, k), l, m)
-laid-sound (united left right) (h, k, l) le = (laid-sound left h (omega (arith, le)), laid-sound right k (omega (arith, le)), l)
-laid-sound (sorted keys child) (h, k) le = (laid-sound child h (omega (arith, le)), omega (arith, le), k)
-laid-sound (limited count skip child) (h, k, l) le = (laid-sound child h le, k, l)
-laid-sound (Empty schema) h le = absurd h
-laid-sound (Held stage place schema) h le = absurd h
-laid-sound (HeldPartial stage calls schema) h le = absurd h
-laid-sound (sampled stage child) h le = absurd h
+laid-sound p h le = all_nodes IsSound p (sound-each p h le)
 
 -- each leaf is an operator
 leaves-few : (p : Logical) → leaf_count p ≤ operator_count p
@@ -64,9 +72,9 @@ leaves-few OneRow = omega arith
 leaves-few (Scan table schema) = omega arith
 leaves-few (filtered condition child) = omega (arith, leaves-few child)
 leaves-few (projected items schema child) = omega (arith, leaves-few child)
-leaves-few (joined kind condition left right) = omega (arith, leaves-few left, leaves-few right)
+leaves-few (joined kind condition left right) = omega (arith, count_two is_leaf left right, leaves-few left, leaves-few right)
 leaves-few (aggregated keys calls schema child) = omega (arith, leaves-few child)
-leaves-few (united left right) = omega (arith, leaves-few left, leaves-few right)
+leaves-few (united left right) = omega (arith, count_two is_leaf left right, leaves-few left, leaves-few right)
 leaves-few (sorted keys child) = omega (arith, leaves-few child)
 leaves-few (limited count skip child) = omega (arith, leaves-few child)
 leaves-few (Empty schema) = omega arith
