@@ -1,8 +1,6 @@
 -- Statements and scripts: from the reading of the parts to that of the whole.
 use Rattle.std.proofs.Common.{ℕ, List, [], ◌∷◌, ◌++◌, Bool, true, false, ◌≡◌, ◌<◌, length, refl, sym, ap, subst, arith, lit<, Result, Ok, Err, MatchResult, MatchOption, Bor}
-use Rattle.std.specs.Prelude.{Option, Some, None, Any}
-use Rattle.std.specs.List.{slice_get}
-use Rattle.std.proofs.lemmas.Option.{slice_get_within, get_or_from_slice_get}
+use Rattle.std.specs.Prelude.{Option, Some, None}
 use Rattle.std.proofs.lemmas.List.{append-nil}
 use Rattle.std.proofs.Math.Seq.{append_snoc}
 use Rattle.aqe_lexer.specs.declared.token.Token.{Token}
@@ -178,7 +176,7 @@ pub cut_first : (source : List ℕ) {now : List (List Token)} {part : List Token
 cut_first source None e = ([], e)
 cut_first source (Some rest) e = (st.parts_of source rest.now, e)
 
-placed_cause : (source : List ℕ) (tokens : List Token) (e : SyntaxFault) (f : ReadFault) → IsPlaced f source tokens e →
+placed_cause : (source : List ℕ) (tokens : List Token) (e : SyntaxFault) (f : ReadFault) → IsPlaced f (length source) e →
     (IsRefusal f → (zs : List Stmt) → st.IsScript source tokens zs → ⊥) → IsNoScript source tokens e
 placed_cause source tokens e (read.Refused left) p n = rw p.1 (p.2, n tt)
 placed_cause source tokens e read.Memory p n = rw p tt
@@ -186,12 +184,8 @@ placed_cause source tokens e read.Memory p n = rw p tt
 pub script_fault : (source : List ℕ) (tokens : List Token) (e : SyntaxFault) {part : List Token} {now : List (List Token)} {script : List Stmt} (f : ReadFault)
     (more : Option (Bor (List Token))) → ScriptSoFar source (st.parts_of source tokens) script now →
     MatchOption more (now ≡ part ∷ []) (λ rest. now ≡ part ∷ st.parts_of source rest.now) → (IsRefusal f → HasNone source part) →
-    IsPlaced f source tokens e → IsNoScript source tokens e
+    IsPlaced f (length source) e → IsNoScript source tokens e
 script_fault source tokens e f more c m n p = placed_cause source tokens e f p (λ r. let known = cut_first source more m in script_refused c known.1 (n r))
-
--- a token of the list begins at its place
-pub token_place : (tokens : List Token) (i : ℕ) (t : Token) → slice_get tokens i ≡ Some t → Any (λ (x : Token). x.start ≡ t.start) tokens
-token_place tokens i t e = (i, t, slice_get_within tokens i t e, get_or_from_slice_get tokens i t t e, refl)
 
 -- one part
 

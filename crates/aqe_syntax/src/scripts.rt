@@ -14,18 +14,15 @@ use aqe_script::cut;
 use aqe_trees::Script;
 use std::alloc::Global;
 
-/// The fault of a part of the tokens, told by the place of the token with which no sentence goes on.
-///
-/// `behind` tokens stand behind the part.
-fn placed(source: &str, tokens: &[Token], behind: usize, fault: ReadFault) -> SyntaxFault
+/// The fault of a part of the tokens, told by the place of the token before which reading stopped.
+fn placed(source: &str, tokens: &[Token], part: usize, fault: ReadFault) -> SyntaxFault
     requires { All (StandsIn source.now) tokens.now }
-    ensures { IsPlaced fault source.now tokens.now result }
+    ensures { IsPlaced fault (length source.now) result }
 {
     let ReadFault::Refused { left } = fault else {
         return SyntaxFault::Memory;
     };
-    let index = tokens.len().saturating_sub(left.saturating_add(behind));
-    let at = match tokens.get(index) {
+    let at = match tokens.get(part.saturating_sub(left)) {
         Some(token) => token.start,
         None => source.len() as u64,
     };
@@ -46,8 +43,7 @@ pub fn read_script(alloc: Global, source: &str, tokens: &[Token]) -> Result<Scri
     'parts: loop {
         let (part, more) = cut(source, rest);
         if let Err(fault) = add(alloc, source, part, &mut script) {
-            let behind = rest.len().saturating_sub(part.len());
-            return Err(placed(source, tokens, behind, fault));
+            return Err(placed(source, rest, part.len(), fault));
         }
         match more {
             Some(more) => rest = more,

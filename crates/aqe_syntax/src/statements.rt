@@ -11,6 +11,7 @@ ghost use Rattle.aqe_syntax.specs.Sentences.{BeginsSet, IsSentence, Adds, HasNon
 
 use crate::queries::query;
 use crate::tables::create;
+use crate::words::refused;
 use aqe_lexer::Token;
 use aqe_reader::ReadFault;
 use aqe_reader::cursor::eat;
@@ -28,7 +29,7 @@ fn whole_query(alloc: Global, terminals: &[Terminal]) -> Result<QueryTree, ReadF
     if rest.is_empty() {
         Ok(tree)
     } else {
-        Err(ReadFault::at(rest))
+        Err(refused(rest))
     }
 }
 
