@@ -1,5 +1,5 @@
 -- A run has one course.
-use Rattle.std.proofs.Common.{Result, ◌++◌, ◌≡◌, inl, inr, ℕ, true, false, List, [], ◌∷◌, Option, Some, None, Ok, Err, refl, sym, ap, subst, ◌∙◌, arith, ◌<◌}
+use Rattle.std.proofs.Common.{Result, ◌++◌, ◌≡◌, inl, inr, ℕ, true, false, List, [], ◌∷◌, Option, Some, None, Ok, Err, refl, sym, ap, subst, ◌∙◌, arith, ◌<◌, ◌≤◌}
 use Rattle.std.specs.Prelude.{IsFalse, IsSome, IsSomeAnd, length}
 use Rattle.aqe_base.specs.declared.status.Status.{Status}
 use Rattle.aqe_values.specs.Bounds.{text_limit}
@@ -96,11 +96,11 @@ refused_same files a b (statement.Query tree) x y h (inr i) (inr j) =
     i.is ∙ ap of_load why ∙ sym j.is
 
 -- queries that are answered by the same statement
-alike_then : (qs rs here there : List Query) → AreAllAlike qs rs → AreAllAlike here there → AreAllAlike (qs ++ here) (rs ++ there)
-alike_then [] [] here there h k = k
-alike_then [] (r ∷ rs) here there h k = absurd h
-alike_then (q ∷ qs) [] here there h k = absurd h
-alike_then (q ∷ qs) (r ∷ rs) here there h k = (h.0, alike_then qs rs here there h.1 k)
+alike_then : (qs rs first second : List Query) → AreAllAlike qs rs → AreAllAlike first second → AreAllAlike (qs ++ first) (rs ++ second)
+alike_then [] [] first second h k = k
+alike_then [] (r ∷ rs) first second h k = absurd h
+alike_then (q ∷ qs) [] first second h k = absurd h
+alike_then (q ∷ qs) (r ∷ rs) first second h k = (h.0, alike_then qs rs first second h.1 k)
 
 answers_same : (files : Entries) (a b a' b' : State) (one : Stmt) (qs rs : List Query) → Same a b → IsCarriedOut files a one a' qs → IsCarriedOut files b one b' rs → AreAllAlike qs rs
 answers_same files a b a' b' (statement.CreateTable form) qs rs h (x, e, y) (z, f, w) = rw (y, w) tt
@@ -166,22 +166,13 @@ needed_once files path x y (too_long l i) (missing n j) = absurd (n (longer_held
 needed_once files path x y (too_long l i) (too_long m j) = i ∙ sym j
 
 source_once : (files : Entries) (path s t : List ℕ) → Needed files path (Ok s) → Needed files path (Ok t) → s ≡ t
-source_once files path s t h k = by (needed_once files path (Ok s) (Ok t) h k)
-  where
-    by : Ok {E = Status} s ≡ Ok {E = Status} t → s ≡ t
-    by e = cc e
+source_once files path s t h k = let both : Ok s ≡ Ok t = needed_once files path (Ok s) (Ok t) h k in cc both
 
 no_file_once : (files : Entries) (path : List ℕ) (x y : Status) → Needed files path (Err x) → Needed files path (Err y) → x ≡ y
-no_file_once files path x y h k = by (needed_once files path (Err x) (Err y) h k)
-  where
-    by : Err {A = List ℕ} x ≡ Err {A = List ℕ} y → x ≡ y
-    by e = cc e
+no_file_once files path x y h k = let both : Err x ≡ Err y = needed_once files path (Err x) (Err y) h k in cc both
 
 file_or_not : (files : Entries) (path s : List ℕ) (x : Status) → Needed files path (Ok s) → Needed files path (Err x) → ⊥
-file_or_not files path s x h k = by (needed_once files path (Ok s) (Err x) h k)
-  where
-    by : Ok {E = Status} s ≡ Err {A = List ℕ} x → ⊥
-    by e = cc e
+file_or_not files path s x h k = let both : Ok s ≡ Err x = needed_once files path (Ok s) (Err x) h k in cc both
 
 script_once : (source : List ℕ) (s t : List Stmt) → IsSource source s → IsSource source t → s ≡ t
 script_once source s t h k =
