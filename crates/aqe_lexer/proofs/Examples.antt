@@ -1,5 +1,5 @@
 -- Small known answers of the definitions.
-use Rattle.std.proofs.Common.{◌≡◌, true, false, Some, None, [], ◌∷◌, refl}
+use Rattle.std.proofs.Common.{◌≡◌, Some, None, [], ◌∷◌, refl}
 use Rattle.std.specs.Prelude.{codes}
 use Rattle.aqe_lexer.specs.declared.fault.Fault.TheVariants as fault
 use Rattle.aqe_lexer.specs.declared.front.Front.TheVariants as front
@@ -10,7 +10,6 @@ use Rattle.aqe_lexer.specs.Content.{unescape, undouble}
 use Rattle.aqe_lexer.specs.Numbers.{run_of}
 use Rattle.aqe_lexer.specs.Parts.{comment_step, string_part}
 use Rattle.aqe_lexer.specs.Symbols.{symbol_len}
-use Rattle.aqe_lexer.specs.Words.{is_reserved}
 
 -- `--` and `/*` begin comments, and one mark alone is a symbol or nothing
 minus_pair : front_of (codes "--1") ≡ front.Line
@@ -78,9 +77,3 @@ nul = refl
 -- a doubled backquote is one
 doubled : undouble (96 ∷ 96 ∷ 97 ∷ 96 ∷ 96 ∷ []) ≡ 96 ∷ 97 ∷ 96 ∷ []
 doubled = refl
-
-any_case : is_reserved (codes "SeLeCt") ≡ true
-any_case = refl
-
-free : is_reserved (codes "location") ≡ false
-free = refl

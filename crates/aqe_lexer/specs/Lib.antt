@@ -7,4 +7,3 @@ pub mod Pieces
 pub mod TokenList
 pub mod Content
 pub mod Spans
-pub mod Words

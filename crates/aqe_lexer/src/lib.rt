@@ -14,10 +14,7 @@ mod reading;
 mod run;
 mod skip;
 mod symbol;
-#[cfg(test)]
-mod tests;
 mod token;
-mod words;
 
 pub use content::{undoubled, unescaped};
 pub use fault::{Fault, LexFault};
@@ -28,4 +25,3 @@ pub use number::{is_long, number_value};
 pub use piece::Piece;
 pub use reading::Reading;
 pub use token::{Token, TokenKind, Tokens};
-pub use words::is_reserved;

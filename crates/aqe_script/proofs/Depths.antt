@@ -22,7 +22,8 @@ use Rattle.aqe_trees.specs.declared.expression.PrimaryTree.TheVariants as primar
 use Rattle.aqe_trees.specs.declared.expression.PrimaryTree.TheVariants.{rolls-Paren, rolls-Cast, rolls-Call, rolls-Case, rolls-Number, rolls-Literal, rolls-Boolean, rolls-Null, rolls-Column, rolls-TableColumn, rolls-CountAll}
 use Rattle.aqe_trees.specs.declared.expression.Arm.{Arm, fold-roll-Arm}
 use Rattle.aqe_trees.specs.Shapes.{or_tree, and_tree, not_tree, predicate_tree, comparison_tree, sum_tree, product_tree, sign_tree, arm}
-use Rattle.aqe_script.specs.Nesting.{deepest, of_maybe, chain_depth, primary_level, test_level, and_level, arm_level, comparison_level, not_level, or_level, predicate_level, product_level, sign_level, sum_level, or_nesting, and_nesting, not_nesting, predicate_nesting, test_nesting, comparison_nesting, sum_nesting, product_nesting, sign_nesting, primary_nesting, arm_nesting}
+use Rattle.aqe_script.specs.Nesting.{deepest, of_maybe, chain_depth, primary_level, test_level, and_level, arm_level, comparison_level, not_level, or_level, predicate_level, product_level, sign_level, sum_level, or_nesting}
+use Rattle.aqe_script.specs.Levels.{and_nesting, not_nesting, predicate_nesting, test_nesting, comparison_nesting, sum_nesting, product_nesting, sign_nesting, primary_nesting, arm_nesting}
 
 pub of_or : (first : AndTree) (rest : List AndTree) → or_nesting (or_tree first rest) ≡ chain_depth (and_nesting first) (map and_nesting rest)
 of_or first rest = fold-roll-OrTree ℕ (ℕ → ℕ) ℕ ℕ ℕ ℕ ℕ ℕ ℕ ℕ ℕ primary_level test_level and_level arm_level comparison_level not_level or_level predicate_level product_level sign_level sum_level (record { first = first; rest = rest })

@@ -12,7 +12,8 @@ use Rattle.aqe_trees.specs.declared.query.JoinStep.{JoinStep}
 use Rattle.aqe_trees.specs.declared.query.SourceTree.{SourceTree}
 use Rattle.aqe_trees.specs.Shapes.{union_tree, joined_tree, query_tree}
 use Rattle.aqe_script.specs.Nesting.{chain_depth, deepest}
-use Rattle.aqe_script.specs.QueryNesting.{core_level, source_level, step_level, joined_level, query_level, select_level, union_level, core_nesting, source_nesting, step_nesting, joined_nesting, union_nesting, query_nesting, select_nesting, sort_nesting}
+use Rattle.aqe_script.specs.QueryNesting.{core_level, source_level, step_level, joined_level, query_level, select_level, union_level, query_nesting, sort_nesting}
+use Rattle.aqe_script.specs.QueryLevels.{core_nesting, source_nesting, step_nesting, joined_nesting, union_nesting, select_nesting}
 
 pub of_joined : (first : SourceTree) (rest : List JoinStep) → joined_nesting (joined_tree first rest) ≡ chain_depth (source_nesting first) (map step_nesting rest)
 of_joined first rest = fold-roll-JoinedTree ℕ ℕ ℕ ℕ ℕ ℕ ℕ core_level source_level step_level joined_level query_level select_level union_level (record { first = first; rest = rest })

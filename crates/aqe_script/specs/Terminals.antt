@@ -5,10 +5,10 @@ use Rattle.aqe_lexer.specs.declared.token.TokenKind.{TokenKind}
 use Rattle.aqe_lexer.specs.declared.token.TokenKind.TheVariants as kind
 use Rattle.aqe_lexer.specs.Content.{text_of, content_of, unescape, undouble}
 use Rattle.aqe_lexer.specs.Numbers.{number_value, is_long}
+use Rattle.aqe_trees.specs.Keywords.{word_key, symbol_key}
 use Rattle.aqe_trees.specs.declared.terminal.Key.{Key}
 use Rattle.aqe_trees.specs.declared.terminal.Terminal.{Terminal}
 use Rattle.aqe_trees.specs.declared.terminal.Terminal.TheVariants.{Fixed, Name, Number, Literal, Mixed}
-use Rattle.aqe_script.specs.Reserved.{word_key, symbol_key}
 
 -- the key of a text, by the kind of its token: of the other kinds, none is one
 abbrev pub key_of_text : TokenKind → List ℕ → Option Key

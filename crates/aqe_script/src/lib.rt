@@ -10,12 +10,10 @@ pub mod parts;
 mod query_nesting;
 mod setting;
 mod terminal;
-#[cfg(test)]
-mod tests;
 mod token_text;
 
 pub use depth::is_too_open;
-pub use key::{key_of, word_key};
+pub use key::key_of;
 pub use laws::one_script;
 pub use part::cut;
 pub use query_nesting::is_too_nested;

@@ -4,7 +4,7 @@
 
 ghost use Rattle.std.specs.Prelude.{◌≡◌, ◌≤◌, ◌+◌, suc, length, map, max, option_map};
 ghost use Rattle.aqe_script.specs.Measured.{Measured};
-ghost use Rattle.aqe_script.specs.Nesting as spec;
+ghost use Rattle.aqe_script.specs.Levels as spec;
 
 use crate::parts::{
     and_parts, arm_parts, comparison_parts, not_parts, or_parts, predicate_parts, product_parts,

@@ -4,7 +4,7 @@ ghost use Rattle.std.specs.Prelude.{◌≡◌, ◌<◌, ◌≤◌, IsTrue, ◌�
 ghost use Rattle.aqe_script.specs.Depth.{depth_limit};
 ghost use Rattle.aqe_script.specs.Measured.{Measured};
 ghost use Rattle.aqe_script.specs.Nesting.{chain_depth, deepest};
-ghost use Rattle.aqe_script.specs.QueryNesting as spec;
+ghost use Rattle.aqe_script.specs.QueryLevels as spec;
 
 use crate::depth::DEPTH_LIMIT;
 use crate::nesting::{above, list, or, over};

@@ -1,9 +1,7 @@
 -- The tokens of settings.
 use Rattle.std.proofs.Common.{ℕ, ◌≡◌, ◌+◌, Bool, true, false, List, [], ◌∷◌, ◌++◌, length, IsUtf8, refl, sym, subst, ap, ◌∙◌, append_assoc, append-nil, length-append, arith}
-use Rattle.std.specs.Prelude.{if◌then◌else◌, nat_lt, Option, Some, None, not, slice_index}
-use Rattle.std.specs.Option.{option_or}
+use Rattle.std.specs.Prelude.{cond, find, nat_lt, Option, Some, None, not, slice_index}
 use Rattle.std.specs.List.{list_all}
-use Rattle.std.specs.Str.{str_eq_ignore_ascii_case}
 use Rattle.std.proofs.lemmas.Bool.{and_parts}
 use Rattle.std.proofs.lemmas.Bool.Decides.{nat_tests}
 use Rattle.std.proofs.lemmas.Str.{IsUtf8-append}
@@ -20,16 +18,15 @@ use Rattle.aqe_trees.specs.declared.terminal.Key.TheVariants as k
 use Rattle.aqe_trees.specs.declared.terminal.Terminal.{Terminal}
 use Rattle.aqe_trees.specs.declared.terminal.Terminal.TheVariants.{Fixed, Literal}
 use Rattle.aqe_trees.specs.Shapes.{set_form}
-use Rattle.aqe_script.specs.Reserved as reserved
-use Rattle.aqe_script.specs.Reserved.{word_key, symbol_key, spelled_in}
+use Rattle.aqe_trees.specs.Keywords.{key_text, word_keys, spells, word_key, symbol_key}
 use Rattle.aqe_script.specs.Terminals.{key_of, key_of_text, fixed_or, content_terminal}
 use Rattle.aqe_script.specs.Settings.{IsSettingKey, string_value, value_of, IsSet}
 use Rattle.aqe_script.specs.Settings.IsSettingKey.{word as key_word, pointed as key_pointed}
 use Rattle.aqe_script.specs.Settings.IsSet.{set as setting}
 use Rattle.aqe_script.specs.Statements.{IsStatement, parts}
 use Rattle.aqe_script.specs.Statements.IsStatement.{set as said_set}
-use Rattle.aqe_spell.specs.Texts.{key_text, literal_text, spaced}
-use Rattle.aqe_spell.specs.Written.{Adds}
+use Rattle.aqe_phrases.specs.Texts.{literal_text, spaced}
+use Rattle.aqe_phrases.specs.Written.{Adds}
 use Rattle.aqe_spell.specs.Tokens.{Gives, NoneParts, IsFine, AllFine, Writable, IsWhole, StatementText}
 use Rattle.aqe_spell.proofs.Cuts.{token_cut, text_at, past, word_begins}
 use Rattle.aqe_spell.proofs.WordTokens.{spaced_cut, spaced_at, key_gives}
@@ -42,27 +39,18 @@ not_true true e = absurd cc
 not_true false e = refl
 
 -- no word parts statements
-keys_join : (spellings : List (List ℕ × Key)) (text : List ℕ) → list_all (λ s. not (parts (Some s.1))) spellings ≡ true
-    → parts (spelled_in spellings text) ≡ false
+keys_join : (keys : List Key) (text : List ℕ) → list_all (λ key. not (parts (Some key))) keys ≡ true
+    → parts (find (λ key. spells text key) keys) ≡ false
 keys_join [] text e = refl
-keys_join (spelling ∷ more) text e =
-    let both = and_parts (not (parts (Some spelling.1))) (list_all (λ s. not (parts (Some s.1))) more) e in
-    elim (str_eq_ignore_ascii_case text spelling.0) as (λ b. parts (if b then Some spelling.1 else spelled_in more text) ≡ false) [
-      | true ↦ not_true (parts (Some spelling.1)) both.0
+keys_join (key ∷ more) text e =
+    let both = and_parts (not (parts (Some key))) (list_all (λ key. not (parts (Some key))) more) e in
+    elim (spells text key) as (λ b. parts (cond b (Some key) (find (λ key. spells text key) more)) ≡ false) [
+      | true ↦ not_true (parts (Some key)) both.0
       | false ↦ keys_join more text both.1
     ]
 
-either_joins : (a b : Option Key) → parts a ≡ false → parts b ≡ false → parts (option_or a b) ≡ false
-either_joins (Some key) b e f = e
-either_joins None b e f = f
-
 word_joins : (text : List ℕ) → parts (word_key text) ≡ false
-word_joins text =
-    either_joins (spelled_in reserved.clause_words text) _ (keys_join reserved.clause_words text refl)
-    (either_joins (spelled_in reserved.join_words text) _ (keys_join reserved.join_words text refl)
-    (either_joins (spelled_in reserved.sort_words text) _ (keys_join reserved.sort_words text refl)
-    (either_joins (spelled_in reserved.condition_words text) _ (keys_join reserved.condition_words text refl)
-    (keys_join reserved.expression_words text refl))))
+word_joins text = keys_join word_keys text refl
 
 none_append : (source : List ℕ) (xs ys : List Token) → NoneParts source xs → NoneParts source ys → NoneParts source (xs ++ ys)
 none_append source [] ys p q = q

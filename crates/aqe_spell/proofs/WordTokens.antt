@@ -1,8 +1,8 @@
 -- The tokens of reserved words, symbols and bare names.
 use Rattle.std.proofs.Common.{ℕ, ◌≡◌, ◌+◌, ◌||◌, ◌&&◌, Bool, true, false, List, [], ◌∷◌, ◌++◌, length, drop, refl, sym, subst, ap, ◌∙◌, append_assoc, length-append, arith}
-use Rattle.std.specs.Prelude.{if◌then◌else◌, Some, None, codes, map, not, slice_index}
-use Rattle.std.specs.List.{list_all, list_any}
-use Rattle.std.specs.Str.{str_eq_ignore_ascii_case}
+use Rattle.std.specs.Prelude.{Option, Some, None, codes, not, slice_index}
+use Rattle.std.specs.Option.{is_some}
+use Rattle.std.specs.List.{list_all}
 use Rattle.std.proofs.lemmas.Bool.{and_parts}
 use Rattle.aqe_lexer.specs.declared.piece.Piece.TheVariants as piece
 use Rattle.aqe_lexer.specs.declared.token.Token.{Token}
@@ -12,16 +12,14 @@ use Rattle.aqe_lexer.specs.Bytes.{is_word_byte, is_word_start}
 use Rattle.aqe_lexer.specs.Content.{text_of, content_of}
 use Rattle.aqe_lexer.specs.Pieces.{Begins}
 use Rattle.aqe_lexer.specs.TokenList.{HasTokens, token_at}
-use Rattle.aqe_lexer.specs.Words as words
 use Rattle.aqe_trees.specs.declared.terminal.Key.{Key}
 use Rattle.aqe_trees.specs.declared.terminal.Key.TheVariants as k
 use Rattle.aqe_trees.specs.declared.terminal.Terminal.{Terminal}
 use Rattle.aqe_trees.specs.declared.terminal.Terminal.TheVariants.{Fixed, Name}
-use Rattle.aqe_script.specs.Reserved as reserved
-use Rattle.aqe_script.specs.Reserved.{word_key, symbol_key, spelled_in}
+use Rattle.aqe_trees.specs.Keywords.{key_text, word_key, symbol_key, is_reserved}
 use Rattle.aqe_script.specs.Terminals.{terminal_of, key_of, key_of_text, fixed_or, content_terminal}
 use Rattle.aqe_script.specs.Statements.{is_semicolon, parts}
-use Rattle.aqe_spell.specs.Texts.{key_text, is_bare}
+use Rattle.aqe_phrases.specs.Texts.{is_bare}
 use Rattle.aqe_spell.specs.Tokens.{Gives}
 use Rattle.aqe_spell.proofs.Cuts.{token_cut, blank_cut, text_at, word_begins}
 
@@ -137,48 +135,21 @@ key_gives k.Greater p = symbol (codes ">") k.Greater refl p (λ rest. record { s
 key_gives k.AtLeast p = symbol (codes ">=") k.AtLeast refl p (λ rest. record { some = omega arith; fits = refl })
 key_gives k.Semicolon p = absurd cc
 
--- a word that is none of some words is none of their keys
-not_spelled : (spellings : List (List ℕ × Key)) (text : List ℕ)
-    → list_any (λ name. str_eq_ignore_ascii_case text name) (map (λ s. s.0) spellings) ≡ false → spelled_in spellings text ≡ None
-not_spelled [] text e = refl
-not_spelled (spelling ∷ more) text e =
-    elim (str_eq_ignore_ascii_case text spelling.0) as (λ b. (b || list_any (λ name. str_eq_ignore_ascii_case text name) (map (λ s. s.0) more)) ≡ false
-    → (if b then Some spelling.1 else spelled_in more text) ≡ None) [
-      | true ↦ λ h. absurd cc
-      | false ↦ λ h. not_spelled more text h
-    ] e
-
-or_parts : (a b : Bool) → (a || b) ≡ false → (a ≡ false) × (b ≡ false)
-or_parts true b e = absurd cc
-or_parts false b e = (refl, e)
-
 not_true : (b : Bool) → not b ≡ true → b ≡ false
 not_true true e = absurd cc
 not_true false e = refl
 
--- a word that is not reserved is no key
-not_reserved : (text : List ℕ) → words.is_reserved text ≡ false → word_key text ≡ None
-not_reserved text e =
-    let c = words.is_one_of words.clause_words text in let j = words.is_one_of words.join_words text in
-    let o = words.is_one_of words.sort_words text in let d = words.is_one_of words.condition_words text in
-    let x = words.is_one_of words.expression_words text in
-    let four = or_parts (c || j || o || d) x e in let three = or_parts (c || j || o) d four.0 in
-    let two = or_parts (c || j) o three.0 in let one = or_parts c j two.0 in
-    rw (
-      not_spelled reserved.clause_words text one.0,
-      not_spelled reserved.join_words text one.1,
-      not_spelled reserved.sort_words text two.1,
-      not_spelled reserved.condition_words text three.1,
-      not_spelled reserved.expression_words text four.1,
-    ) refl
+none_there : (found : Option Key) → is_some found ≡ false → found ≡ None
+none_there (Some key) e = absurd cc
+none_there None e = refl
 
 pub name_gives : (text : List ℕ) → is_bare text ≡ true → Gives (text ++ 32 ∷ []) (IsOne (Name text false))
 name_gives text e source at rest d =
-    let first = and_parts (is_word_start (slice_index text 0) && list_all is_word_byte text) (not (words.is_reserved text)) e in
+    let first = and_parts (is_word_start (slice_index text 0) && list_all is_word_byte text) (not (is_reserved text)) e in
     let second = and_parts (is_word_start (slice_index text 0)) (list_all is_word_byte text) first.0 in
     let token = token_at kind.Word at (length text) in
     let is = text_at source text (32 ∷ rest) kind.Word at (spaced_at source text rest at d) in
-    let key_is : key_of source token ≡ None = ap word_key is ∙ not_reserved text (not_true (words.is_reserved text) first.1) in
+    let key_is : key_of source token ≡ None = ap word_key is ∙ none_there (word_key text) (not_true (is_reserved text) first.1) in
     record {
       tokens = token ∷ [];
       wanted = record {

@@ -1,15 +1,9 @@
 //! The text of a script: what the reader reads back as the same script.
 #![tactic(auto)]
 
-mod expression;
-mod leaf;
-mod operator;
 mod query;
 mod query_leaf;
 mod statement;
 mod table;
-#[cfg(test)]
-mod tests;
-mod word;
 
 pub use statement::spell;

@@ -1,2 +1,4 @@
+pub mod KeywordLemmas
+mod KnownAnswers
 pub mod OneExpression
 pub mod OneQuery

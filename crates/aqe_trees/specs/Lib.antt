@@ -1,4 +1,5 @@
 pub mod Shapes
+pub mod Keywords
 pub mod Follow
 pub mod Words
 pub mod Expressions

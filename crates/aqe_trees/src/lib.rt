@@ -2,17 +2,17 @@
 #![tactic(auto)]
 
 mod expression;
+mod keyword;
 mod laws;
 mod query;
 mod statement;
 mod terminal;
-#[cfg(test)]
-mod tests;
 
 pub use expression::{
     AndTree, Arm, CompareOp, ComparisonTree, NotTree, OrTree, PredicateTree, PrimaryTree,
     ProductOp, ProductTree, Sign, SignTree, SumTree, Test, Truth,
 };
+pub use keyword::{key_text, symbol_key, word_key};
 pub use laws::{one_query, one_table};
 pub use query::{
     CoreTree, ItemTree, JoinStep, JoinedTree, QueryTree, SelectTree, SortTree, SourceTree,

@@ -5,7 +5,7 @@ use Rattle.aqe_trees.specs.declared.expression.Sign.{Sign}
 use Rattle.aqe_trees.specs.declared.expression.ProductTree.{ProductTree}
 use Rattle.aqe_trees.specs.declared.expression.ProductOp.{ProductOp}
 use Rattle.aqe_trees.specs.declared.expression.SignTree.{SignTree}
-use Rattle.aqe_script.specs.Nesting as spec
+use Rattle.aqe_script.specs.Levels as spec
 use Rattle.aqe_script.proofs.Depths.{of_or, of_and, of_comparison, of_sum, of_product}
 use Rattle.aqe_script.proofs.Turns.{chain_begun, chain_deep, chain_deep_next, chain_deep_first}
 use Rattle.aqe_script.proofs.nesting.+expression.Goals as goal

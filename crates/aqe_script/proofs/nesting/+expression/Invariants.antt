@@ -5,7 +5,7 @@ use Rattle.aqe_trees.specs.declared.expression.Sign.{Sign}
 use Rattle.aqe_trees.specs.declared.expression.ProductTree.{ProductTree}
 use Rattle.aqe_trees.specs.declared.expression.ProductOp.{ProductOp}
 use Rattle.aqe_trees.specs.declared.expression.SignTree.{SignTree}
-use Rattle.aqe_script.specs.Nesting as spec
+use Rattle.aqe_script.specs.Levels as spec
 use Rattle.aqe_script.proofs.nesting.+expression.Given as goal
 
 abbrev pub invariant-or-more : goal.invariant-or-more

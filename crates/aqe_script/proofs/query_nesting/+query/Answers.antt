@@ -4,7 +4,7 @@ use Rattle.aqe_trees.specs.declared.query.JoinedTree.{JoinedTree}
 use Rattle.aqe_script.specs.Nesting.{over}
 use Rattle.aqe_trees.specs.declared.query.QueryTree.{QueryTree}
 use Rattle.aqe_script.specs.Measured.{Measured}
-use Rattle.aqe_script.specs.QueryNesting as spec
+use Rattle.aqe_script.specs.QueryLevels as spec
 use Rattle.aqe_script.proofs.QueryDepths.{of_joined, of_union, of_core_paren, of_core_select, of_query}
 use Rattle.aqe_script.proofs.Turns.{chain_deep, chain_deep_next, chain_deep_first, chain_opened, chain_kept, chain_left}
 use Rattle.aqe_script.proofs.query_nesting.+query.Goals as goal

@@ -1,7 +1,7 @@
 use Rattle.std.proofs.Common.{◌≡◌, ◌≤◌, drop, map, Bool}
 use Rattle.aqe_trees.specs.declared.query.CoreTree.{CoreTree}
 use Rattle.aqe_script.specs.Nesting.{chain_depth}
-use Rattle.aqe_script.specs.QueryNesting as spec
+use Rattle.aqe_script.specs.QueryLevels as spec
 use Rattle.aqe_script.proofs.Turns.{ChainLeft}
 use Rattle.aqe_script.proofs.query_nesting.+query.Given as goal
 

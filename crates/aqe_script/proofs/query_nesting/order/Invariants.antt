@@ -1,6 +1,6 @@
 use Rattle.std.proofs.Common.{◌≡◌, ◌≤◌, drop, map, max}
 use Rattle.aqe_script.specs.Nesting.{deepest}
-use Rattle.aqe_script.specs.QueryNesting as spec
+use Rattle.aqe_script.specs.QueryLevels as spec
 use Rattle.aqe_script.proofs.query_nesting.order.Given as goal
 
 abbrev pub invariant-sorts : goal.invariant-sorts
