@@ -8,11 +8,10 @@ mod outputs;
 mod scope;
 mod select;
 mod source;
-#[cfg(test)]
-mod tests;
 
 pub use analysis::analyse;
-pub use aqe_rules::{
-    AnalysisFault, one_plan, plan_or_check, plans_are_bounded, plans_are_closed,
-    plans_are_well_formed,
+pub use aqe_laws::{
+    one_plan, plan_or_check, plans_are_bounded, plans_are_closed, plans_are_well_formed,
+    scans_are_of_the_catalog,
 };
+pub use aqe_rules::AnalysisFault;

@@ -15,7 +15,7 @@ ghost use Rattle.aqe_analysis.specs.Seen.{item_seen, items_seen, output_seen, ou
 use crate::output_names::output_name;
 use crate::scope::FromItem;
 use aqe_base::{AnalysisKind, Listing};
-use aqe_rules::{AnalysisFault, Named, Typed, alike, refused};
+use aqe_rules::{AnalysisFault, Named, Typed, alike, is_of, refused};
 use aqe_trees::{ItemTree, OrTree};
 use aqe_typing::{is_column, value_over};
 use aqe_values::Text;
@@ -37,16 +37,6 @@ pub(crate) struct Shown {
     pub has_from: bool,
     pub items: Listing<FromItem>,
     pub columns: Listing<Named>,
-}
-
-/// Whether the column is one of an item of the name.
-fn is_of(name: &Text, column: &Named) -> bool
-    ensures { result ≡ readings.is_of name.now column.now }
-{
-    match &column.item {
-        Some(item) => alike(item, name),
-        None => false,
-    }
 }
 
 /// Whether the item has the name.

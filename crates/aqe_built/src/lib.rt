@@ -5,8 +5,6 @@ mod calls;
 mod parts;
 mod query;
 mod script;
-#[cfg(test)]
-mod tests;
 
 pub use parts::{body, clauses, only_core, only_joined, only_source};
 pub use query::is_query_built;

@@ -1,14 +1,1 @@
-pub mod TextFacts
-pub mod TextLaw
-pub mod Told
-pub mod Writing
-pub mod CourseFacts
-pub mod OneLoading
-pub mod OneCourse
-pub mod Ending
-pub mod LoadFacts
-pub mod ScriptFacts
-pub mod OpeningFacts
-pub mod OneSource
-pub mod Cutting
-pub mod RunFacts
+pub mod HeadlineFacts

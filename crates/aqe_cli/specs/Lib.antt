@@ -1,8 +1,1 @@
-pub mod ResultText
-pub mod Words
-pub mod Loading
-pub mod Course
-pub mod Opening
-pub mod Run
-pub mod Steps
-pub mod Laws
+pub mod Headline

@@ -1,22 +1,8 @@
-//! The command of the engine: the words, the script, its statements one by one and the printed results.
+//! The command of the engine: the words of the command line, the run that they say, and its end.
 #![tactic(auto)]
 
-mod fault;
-mod laws;
-mod loading;
-mod opening;
-mod place;
-mod position;
 mod run;
-mod statement;
-mod text;
 mod words;
 
-pub use laws::{runs_end_in_one_way, runs_have_one_refusal, texts_tell_rows};
-pub use run::run_words;
-pub use text::result_text;
-
-#[cfg(test)]
-mod limit_tests;
-#[cfg(test)]
-mod tests;
+pub use aqe_texts::{result_text, texts_tell_rows};
+pub use run::{refused_words, run_words};

@@ -1,16 +1,16 @@
 //! The words of the command line.
 
 ghost use Rattle.std.specs.Prelude.{◌≡◌, ℕ, List, MatchOption, map, string_bytes};
-ghost use Rattle.aqe_cli.specs.Words.{RunsScript};
+ghost use Rattle.aqe_course.specs.Command.{IsMisused, Says, command};
 
 /// The path of the script to run, where the words are `run` and a path.
-pub fn script_path(words: &[String]) -> Option<&str>
+pub(crate) fn script_path(words: &[String]) -> Option<&str>
     ensures { MatchOption result
-        ((path : List ℕ) → ¬ (RunsScript (map string_bytes words.now) path))
-        (λ path. RunsScript (map string_bytes words.now) path.now) }
+        (IsMisused (map string_bytes words.now))
+        (λ path. Says (map string_bytes words.now) (command path.now)) }
 {
     match words {
-        [command, path] if command.as_str() == "run" => Some(path.as_str()),
+        [word, path] if word.as_str() == "run" => Some(path.as_str()),
         _ => None,
     }
 }

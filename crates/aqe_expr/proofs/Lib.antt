@@ -1,6 +1,3 @@
 pub mod InFront
-pub mod Matching
-pub mod Quotients
-pub mod Ranges
 pub mod Shapes
 pub mod Steps

@@ -11,7 +11,7 @@ use Rattle.aqe_expr.specs.declared.expr.Operands.{Operands}
 use Rattle.aqe_expr.specs.declared.expr.Operands.TheVariants as list
 use Rattle.aqe_expr.specs.declared.expr.CasePairs.{CasePairs}
 use Rattle.aqe_expr.specs.declared.expr.CasePairs.TheVariants as pairs
-use Rattle.aqe_expr.specs.Truths.{Truth, truth_value, between, either, equals, is_true, is_known_true, is_null}
+use Rattle.aqe_scalar.specs.Truths.{Truth, truth_value, between, either, equals, is_true, is_known_true, is_null}
 use Rattle.aqe_expr.specs.Meaning.{val, unary_value, binary_value, in_list, first_true, first_equal, first_present}
 use Rattle.aqe_expr.proofs.Shapes.{is_unary, is_binary, is_between, is_one_of, is_case, is_switch, is_operand, is_pair}
 

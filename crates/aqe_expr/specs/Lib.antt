@@ -2,9 +2,9 @@ pub mod Meaning
 pub mod Shapes
 pub mod Chains
 pub mod Columns
-pub mod Numbers
-pub mod Truths
-pub mod Patterns
-pub mod Casts
 pub mod Seen
-pub mod Laying
+pub mod Operators
+pub use Rattle.aqe_scalar.specs.Numbers
+pub use Rattle.aqe_scalar.specs.Truths
+pub use Rattle.aqe_scalar.specs.Casts
+pub use Rattle.aqe_like.specs.Patterns

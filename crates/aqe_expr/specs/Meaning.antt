@@ -11,10 +11,10 @@ use Rattle.aqe_expr.specs.declared.expr.Expr.{Expr, Column, Literal, Coalesce}
 use Rattle.aqe_expr.specs.declared.expr.Operands as list
 use Rattle.aqe_expr.specs.declared.expr.CasePairs as pairs
 use Rattle.aqe_expr.specs.Shapes.{unary_of, binary_of, between_of, one_of, case_of, switch_of, operand, pair}
-use Rattle.aqe_expr.specs.Numbers.{arithmetic, whole_quotient, negated, sum_of, difference_of, product_of, remainder_of}
-use Rattle.aqe_expr.specs.Truths.{Truth, truth_of, truth_value, is_true, is_false, is_null, is_known_true, both, either, opposite, equals, differs, less, greater, at_most, at_least, between}
-use Rattle.aqe_expr.specs.Casts.{as_int, as_bigint, as_text, as_boolean, character_count}
-use Rattle.aqe_expr.specs.Patterns.{like}
+use Rattle.aqe_scalar.specs.Numbers.{arithmetic, whole_quotient, negated, sum_of, difference_of, product_of, remainder_of}
+use Rattle.aqe_scalar.specs.Truths.{Truth, truth_of, truth_value, is_true, is_false, is_null, is_known_true, both, either, opposite, equals, differs, less, greater, at_most, at_least, between}
+use Rattle.aqe_scalar.specs.Casts.{as_int, as_bigint, as_text, as_boolean, character_count}
+use Rattle.aqe_like.specs.Patterns.{like}
 
 abbrev pub unary_value : UnaryOp → Value → Value
 unary_value unary.Neg a = negated a

@@ -4,6 +4,7 @@ ghost use Rattle.std.specs.Prelude.{◌≡◌, IfOk};
 ghost use Rattle.aqe_expr.specs.Chains.{in_front, pairs_in_front};
 
 use crate::{CasePairs, Expr, Operands};
+use aqe_boxes::{all_three, both};
 use aqe_values::Memory;
 use std::alloc::Global;
 
@@ -21,44 +22,39 @@ impl Expr {
             }
             Expr::Unary { op, arg } => {
                 let arg = arg.get().copy(alloc)?;
-                let copied = Expr::unary(alloc, *op, arg)?;
-                Ok(copied)
+                Expr::unary(alloc, *op, arg)
             }
             Expr::Binary { op, left, right } => {
-                let left = left.get().copy(alloc)?;
-                let right = right.get().copy(alloc)?;
-                let copied = Expr::binary(alloc, *op, left, right)?;
-                Ok(copied)
+                let (left, right) = both(left.get().copy(alloc), right.get().copy(alloc))?;
+                Expr::binary(alloc, *op, left, right)
             }
             Expr::Between { value, low, high } => {
-                let value = value.get().copy(alloc)?;
-                let low = low.get().copy(alloc)?;
-                let high = high.get().copy(alloc)?;
-                let copied = Expr::between(alloc, value, low, high)?;
-                Ok(copied)
+                let (value, low, high) = all_three(
+                    value.get().copy(alloc),
+                    low.get().copy(alloc),
+                    high.get().copy(alloc),
+                )?;
+                Expr::between(alloc, value, low, high)
             }
             Expr::OneOf { value, list } => {
-                let value = value.get().copy(alloc)?;
-                let list = list.copy(alloc)?;
-                let copied = Expr::one_of(alloc, value, list)?;
-                Ok(copied)
+                let (value, list) = both(value.get().copy(alloc), list.copy(alloc))?;
+                Expr::one_of(alloc, value, list)
             }
             Expr::Case { pairs, otherwise } => {
-                let pairs = pairs.copy(alloc)?;
-                let otherwise = otherwise.get().copy(alloc)?;
-                let copied = Expr::case_of(alloc, pairs, otherwise)?;
-                Ok(copied)
+                let (pairs, otherwise) = both(pairs.copy(alloc), otherwise.get().copy(alloc))?;
+                Expr::case_of(alloc, pairs, otherwise)
             }
             Expr::Switch {
                 operand,
                 pairs,
                 otherwise,
             } => {
-                let operand = operand.get().copy(alloc)?;
-                let pairs = pairs.copy(alloc)?;
-                let otherwise = otherwise.get().copy(alloc)?;
-                let copied = Expr::switch(alloc, operand, pairs, otherwise)?;
-                Ok(copied)
+                let (operand, pairs, otherwise) = all_three(
+                    operand.get().copy(alloc),
+                    pairs.copy(alloc),
+                    otherwise.get().copy(alloc),
+                )?;
+                Expr::switch(alloc, operand, pairs, otherwise)
             }
             Expr::Coalesce(list) => {
                 let list = list.copy(alloc)?;
@@ -81,8 +77,7 @@ impl Operands {
             items.push(item)?;
             rest = more.get();
         }
-        let chain = Operands::from_vec(alloc, items)?;
-        Ok(chain)
+        Operands::from_vec(alloc, items)
     }
 
     /// The chain of the expressions of a list, in their order.
@@ -113,13 +108,11 @@ impl CasePairs {
             rest: more,
         } = rest
         {
-            let test = test.get().copy(alloc)?;
-            let gives = gives.get().copy(alloc)?;
+            let (test, gives) = both(test.get().copy(alloc), gives.get().copy(alloc))?;
             items.push((test, gives))?;
             rest = more.get();
         }
-        let chain = CasePairs::from_vec(alloc, items)?;
-        Ok(chain)
+        CasePairs::from_vec(alloc, items)
     }
 
     /// The chain of the pairs of a list, in their order.

@@ -1,20 +1,20 @@
 //! The value of an expression over a row.
 
 ghost use Rattle.std.specs.Prelude.{◌≡◌, IfOk, option_map, slice_index_or};
-ghost use Rattle.aqe_expr.specs.Casts.{as_text};
+ghost use Rattle.aqe_scalar.specs.Casts.{as_text};
 ghost use Rattle.aqe_expr.specs.Seen.{value_of};
-ghost use Rattle.aqe_expr.specs.Truths as truths;
+ghost use Rattle.aqe_scalar.specs.Truths as truths;
 ghost use Rattle.aqe_expr.specs.Meaning as spec;
 
-use crate::casting::{as_bigint, as_boolean, as_int, as_text, character_count};
-use crate::logic::{
-    Truth, at_least, at_most, between, both, differs, either, equals, greater, is_false,
-    is_known_true, is_null, less, opposite, truth_of, truth_value,
-};
-use crate::number::{difference, negation, product, quotient, remainder, sum};
-use crate::pattern::likes;
 use crate::seen::Seen;
-use crate::{BinaryOp, CasePairs, Expr, Operands, UnaryOp, truth};
+use crate::{BinaryOp, CasePairs, Expr, Operands, UnaryOp};
+use aqe_boxes::{all_three, both};
+use aqe_like::likes;
+use aqe_scalar::{
+    Truth, as_bigint, as_boolean, as_int, as_text, at_least, at_most, between, character_count,
+    difference, differs, either, equals, greater, is_false, is_known_true, is_null, less, negation,
+    opposite, product, quotient, remainder, sum, truth, truth_of, truth_value,
+};
 use aqe_values::{Memory, Row, Value};
 use std::alloc::Global;
 
@@ -41,21 +41,19 @@ fn look<'a>(alloc: Global, expr: &'a Expr, row: &'a Row) -> Result<Seen<'a>, Mem
         Expr::Literal(value) => Ok(Seen::Lent(value)),
         Expr::Unary { op, arg } => {
             let a = look(alloc, arg.get(), row)?;
-            let value = unary(alloc, *op, a)?;
-            Ok(value)
+            unary(alloc, *op, a)
         }
         Expr::Binary { op, left, right } => {
-            let a = look(alloc, left.get(), row)?;
-            let b = look(alloc, right.get(), row)?;
-            let value = binary(*op, a, b);
-            Ok(Seen::Made(value))
+            let (a, b) = both(look(alloc, left.get(), row), look(alloc, right.get(), row))?;
+            Ok(Seen::Made(binary(*op, a, b)))
         }
         Expr::Between { value, low, high } => {
-            let v = look(alloc, value.get(), row)?;
-            let a = look(alloc, low.get(), row)?;
-            let b = look(alloc, high.get(), row)?;
-            let value = within(v, a, b);
-            Ok(Seen::Made(value))
+            let (v, a, b) = all_three(
+                look(alloc, value.get(), row),
+                look(alloc, low.get(), row),
+                look(alloc, high.get(), row),
+            )?;
+            Ok(Seen::Made(within(v, a, b)))
         }
         Expr::OneOf { value, list } => {
             let v = look(alloc, value.get(), row)?;
@@ -64,10 +62,7 @@ fn look<'a>(alloc: Global, expr: &'a Expr, row: &'a Row) -> Result<Seen<'a>, Mem
         }
         Expr::Case { pairs, otherwise } => match first_true(alloc, pairs, row)? {
             Some(seen) => Ok(seen),
-            None => {
-                let seen = look(alloc, otherwise.get(), row)?;
-                Ok(seen)
-            }
+            None => look(alloc, otherwise.get(), row),
         },
         Expr::Switch {
             operand,
@@ -77,16 +72,10 @@ fn look<'a>(alloc: Global, expr: &'a Expr, row: &'a Row) -> Result<Seen<'a>, Mem
             let v = look(alloc, operand.get(), row)?;
             match first_equal(alloc, v.get(), pairs, row)? {
                 Some(seen) => Ok(seen),
-                None => {
-                    let seen = look(alloc, otherwise.get(), row)?;
-                    Ok(seen)
-                }
+                None => look(alloc, otherwise.get(), row),
             }
         }
-        Expr::Coalesce(list) => {
-            let seen = first_present(alloc, list, row)?;
-            Ok(seen)
-        }
+        Expr::Coalesce(list) => first_present(alloc, list, row),
     }
 }
 
@@ -264,7 +253,7 @@ fn binary_value(op: BinaryOp, a: &Value, b: &Value) -> Value
         BinaryOp::Le => truth_value(at_most(a, b)),
         BinaryOp::Gt => truth_value(greater(a, b)),
         BinaryOp::Ge => truth_value(at_least(a, b)),
-        BinaryOp::And => truth_value(both(truth_of(a), truth_of(b))),
+        BinaryOp::And => truth_value(aqe_scalar::both(truth_of(a), truth_of(b))),
         BinaryOp::Or => truth_value(either(truth_of(a), truth_of(b))),
         BinaryOp::Like => like_value(a, b),
     }

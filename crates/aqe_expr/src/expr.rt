@@ -2,6 +2,7 @@
 
 ghost use Rattle.std.specs.Prelude.{◌≡◌, IfOk};
 
+use aqe_boxes::{boxed_pair, boxed_three};
 use aqe_values::{Memory, Value};
 use sqlite_items::Boxed;
 use std::alloc::Global;
@@ -172,8 +173,7 @@ impl Operands {
     pub fn more(alloc: Global, item: Expr, rest: Operands) -> Result<Operands, Memory>
         ensures { IfOk result (λ e. e ≡ Operands.More item rest) }
     {
-        let item = Boxed::new(alloc, item)?;
-        let rest = Boxed::new(alloc, rest)?;
+        let (item, rest) = boxed_pair(alloc, item, rest)?;
         Ok(Operands::More { item, rest })
     }
 }
@@ -188,9 +188,7 @@ impl CasePairs {
     ) -> Result<CasePairs, Memory>
         ensures { IfOk result (λ e. e ≡ CasePairs.More test gives rest) }
     {
-        let test = Boxed::new(alloc, test)?;
-        let gives = Boxed::new(alloc, gives)?;
-        let rest = Boxed::new(alloc, rest)?;
+        let (test, gives, rest) = boxed_three(alloc, test, gives, rest)?;
         Ok(CasePairs::More { test, gives, rest })
     }
 }
@@ -208,8 +206,7 @@ impl Expr {
     pub fn binary(alloc: Global, op: BinaryOp, left: Expr, right: Expr) -> Result<Expr, Memory>
         ensures { IfOk result (λ e. e ≡ Expr.Binary op left right) }
     {
-        let left = Boxed::new(alloc, left)?;
-        let right = Boxed::new(alloc, right)?;
+        let (left, right) = boxed_pair(alloc, left, right)?;
         Ok(Expr::Binary { op, left, right })
     }
 
@@ -217,9 +214,7 @@ impl Expr {
     pub fn between(alloc: Global, value: Expr, low: Expr, high: Expr) -> Result<Expr, Memory>
         ensures { IfOk result (λ e. e ≡ Expr.Between value low high) }
     {
-        let value = Boxed::new(alloc, value)?;
-        let low = Boxed::new(alloc, low)?;
-        let high = Boxed::new(alloc, high)?;
+        let (value, low, high) = boxed_three(alloc, value, low, high)?;
         Ok(Expr::Between { value, low, high })
     }
 
@@ -248,8 +243,7 @@ impl Expr {
     ) -> Result<Expr, Memory>
         ensures { IfOk result (λ e. e ≡ Expr.Switch operand pairs otherwise) }
     {
-        let operand = Boxed::new(alloc, operand)?;
-        let otherwise = Boxed::new(alloc, otherwise)?;
+        let (operand, otherwise) = boxed_pair(alloc, operand, otherwise)?;
         Ok(Expr::Switch {
             operand,
             pairs,

@@ -1,10 +1,10 @@
 //! Values on the way through an expression, of which texts are not copied.
 
 ghost use Rattle.std.specs.Prelude.{◌≡◌, IfOk};
-ghost use Rattle.aqe_expr.specs.Truths as truths;
+ghost use Rattle.aqe_scalar.specs.Truths as truths;
 ghost use Rattle.aqe_expr.specs.Seen.{value_of};
 
-use crate::logic::is_null;
+use aqe_scalar::is_null;
 use aqe_values::{Memory, Value};
 use std::alloc::Global;
 

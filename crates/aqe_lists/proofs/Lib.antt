@@ -3,4 +3,3 @@ pub mod AnswerSteps
 pub mod Behind
 pub mod Files
 pub mod Narrow
-pub mod OneTable

@@ -2,4 +2,3 @@ pub mod LoadedTables
 pub mod Forms
 pub mod Lists
 pub mod Laws
-pub mod OneTable

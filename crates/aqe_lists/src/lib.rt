@@ -7,8 +7,6 @@ mod forms;
 mod laws;
 mod projecting;
 mod row_list;
-#[cfg(test)]
-mod tests;
 
 pub use evaluation::rows_of;
 pub use forms::{is_of_one_source, scans};

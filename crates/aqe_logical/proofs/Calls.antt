@@ -56,13 +56,13 @@ neither_greater r Equal e h k = e
 neither_greater r Greater e h k = absurd (cc)
 
 -- in the order under a sort key, whether a value stands behind another
-abbrev behind : SortWay → Value → Value → Bool
+abbrev pub behind : SortWay → Value → Value → Bool
 behind way a b = is_greater (way_cmp way a b)
 
 behind_turned : (way : SortWay) (a b : Value) → behind way a b ≡ true → way_cmp way b a ≡ Less
 behind_turned way a b h = (way_total way).antisymm b a ∙ ap ordering_reverse (is_only_greater (way_cmp way a b) h)
 
-not_both : (way : SortWay) (a b : Value) → behind way a b ≡ true → behind way b a ≡ false
+pub not_both : (way : SortWay) (a b : Value) → behind way a b ≡ true → behind way b a ≡ false
 not_both way a b h = ap is_greater (behind_turned way a b h)
 
 behind_trans : (way : SortWay) (a b c : Value) → behind way a b ≡ true → behind way b c ≡ true → behind way a c ≡ true
@@ -70,7 +70,7 @@ behind_trans way a b c h k =
     let less : way_cmp way c a ≡ Less = (way_total way).trans c b a (behind_turned way b c k) (behind_turned way a b h) in
     ap is_greater ((way_total way).antisymm a c ∙ ap ordering_reverse less)
 
-level : (way : SortWay) (a b : Value) → behind way a b ≡ false → behind way b a ≡ false → a ≡ b
+pub level : (way : SortWay) (a b : Value) → behind way a b ≡ false → behind way b a ≡ false → a ≡ b
 level way a b h k = way_equal way a b (neither_greater (way_cmp way a b) (way_cmp way b a) ((way_total way).antisymm a b) h k)
 
 first_swaps_by : (way : SortWay) (z x y : Value) (zx zy xy yx : Bool) → behind way z x ≡ zx → behind way z y ≡ zy → behind way x y ≡ xy → behind way y x ≡ yx → first_of way (first_of way z x) y ≡ first_of way (first_of way z y) x
@@ -86,7 +86,7 @@ first_swaps_by way z x y false false xy yx a b c d = rw (a, b) (rw a refl)
 first_swaps : (way : SortWay) (z x y : Value) → first_of way (first_of way z x) y ≡ first_of way (first_of way z y) x
 first_swaps way z x y = first_swaps_by way z x y (behind way z x) (behind way z y) (behind way x y) (behind way y x) refl refl refl refl
 
-merged_swaps : (fun : AggFun) (z x y : Value) → merged fun (merged fun z x) y ≡ merged fun (merged fun z y) x
+pub merged_swaps : (fun : AggFun) (z x y : Value) → merged fun (merged fun z x) y ≡ merged fun (merged fun z y) x
 merged_swaps Count z x y = count_swaps z x y
 merged_swaps Sum z x y = total_swaps (number_of z) (number_of x) (number_of y)
 merged_swaps Min z x y = first_swaps ascending z x y

@@ -1,3 +1,4 @@
+pub mod Nodes
 pub mod Rearranged
 pub mod Rows
 pub mod Ways
@@ -8,5 +9,6 @@ pub mod Agree
 pub mod Widths
 pub mod Shapes
 pub mod Schemas
+pub mod ScanSteps
 pub mod KnownAnswers
 pub mod Examples

@@ -17,7 +17,8 @@ use Rattle.aqe_logical.specs.Answers.{Tables, Stages, Row, Answer, table_rows, m
 use Rattle.aqe_logical.specs.Columns.{width, schema_of, shows_right}
 use Rattle.aqe_logical.specs.Groups.{row_of, distinct, group_keys, group_rows, finish_rows, finished, rows_with, call_value}
 use Rattle.aqe_logical.specs.Joins.{nulls, where_none, with_matches, left_over, half, pairs}
-use Rattle.aqe_logical.specs.WellFormed.{Sound, LeavesFit, HaveWidth}
+use Rattle.aqe_logical.specs.WellFormed.{IsSound, Fits, HaveWidth}
+use Rattle.aqe_logical.proofs.Nodes.{Each, each}
 use Rattle.aqe_logical.specs.Laws.{AnswersHaveTheWidth}
 
 abbrev Wide : ℕ → Row → Type 0
@@ -122,28 +123,28 @@ at_most-all : (P : Row → Type 0) (count : Option ℕ) (rows : List Row) → Al
 at_most-all P None rows h = h
 at_most-all P (Some n) rows h = All-take P n rows h
 
-wide : (tables : Tables) (stages : Stages) (plan : Logical) (l : List Row) → Sound plan → LeavesFit tables stages plan → Answer tables stages plan l → HaveWidth (width plan) l
+wide : (tables : Tables) (stages : Stages) (plan : Logical) (l : List Row) → Each IsSound plan → Each (Fits tables stages) plan → Answer tables stages plan l → HaveWidth (width plan) l
 wide tables stages OneRow l s f h = rw h (one-wide zero [] refl)
 wide tables stages (Scan table schema) l s f h = All-permutation (Wide (length schema)) (table_rows tables table) l h f
-wide tables stages (filtered condition child) l (s, below) f (rows, h, e) =
+wide tables stages (filtered condition child) l (below, s) (t, f) (rows, h, e) =
     rw e (All-filter (holds condition) (Wide (width child)) rows (wide tables stages child rows s f h))
-wide tables stages (projected items schema child) l (s, as_long, small, below) f (rows, h, e) =
+wide tables stages (projected items schema child) l ((as_long, small, below), s) (t, f) (rows, h, e) =
     rw e (All-map (Wide (length schema)) (row_of items) rows (every (λ row. Wide (length schema) (row_of items row)) (λ row. length-map items (val row) ∙ sym as_long) rows))
-wide tables stages (joined kind condition left right) l (s, t, small, below) (f, g) (a, b, h, k, p) =
+wide tables stages (joined kind condition left right) l ((small, below), s, t) (u, f, g) (a, b, h, k, p) =
     All-permutation (Wide (width (joined kind condition left right))) (pairs kind (width left) (width right) (meets condition) a b) l p
     (subst (λ n. HaveWidth n (pairs kind (width left) (width right) (meets condition) a b))
     (sym (width_joined (shows_right kind) (schema_of left) (schema_of right)))
     (join-wide kind (width left) (width right) (meets condition) a b (wide tables stages left a s f h) (wide tables stages right b t g k)))
-wide tables stages (aggregated keys calls schema child) l (s, as_long, small, below, calls_below) f (rows, h, p) =
+wide tables stages (aggregated keys calls schema child) l ((as_long, small, below, calls_below), s) (t, f) (rows, h, p) =
     All-permutation (Wide (length schema)) (group_rows (length keys) (row_of keys) calls rows) l p
     (subst (λ n. HaveWidth n (group_rows (length keys) (row_of keys) calls rows)) (sym as_long) (groups-wide keys calls rows))
-wide tables stages (united left right) l (s, t, as_wide) (f, g) (a, b, h, k, p) =
+wide tables stages (united left right) l (as_wide, s, t) (u, f, g) (a, b, h, k, p) =
     All-permutation (Wide (width left)) (a ++ b) l p
     (All-append (Wide (width left)) a b (wide tables stages left a s f h)
     (subst (λ n. HaveWidth n b) (sym as_wide) (wide tables stages right b t g k)))
-wide tables stages (sorted keys child) l (s, small, below) f (rows, h, p, order) =
+wide tables stages (sorted keys child) l ((small, below), s) (t, f) (rows, h, p, order) =
     All-permutation (Wide (width child)) rows l p (wide tables stages child rows s f h)
-wide tables stages (limited count skip child) l (s, c, d) f (rows, h, e) =
+wide tables stages (limited count skip child) l ((c, d), s) (t, f) (rows, h, e) =
     rw e (at_most-all (Wide (width child)) count (drop skip rows) (All-drop (Wide (width child)) skip rows (wide tables stages child rows s f h)))
 wide tables stages (Empty schema) l s f h = rw h (All-nil (Wide (length schema)))
 wide tables stages (Held stage place schema) l s f (p, order) = All-permutation (Wide (length schema)) (stages stage.0) l p f
@@ -153,8 +154,8 @@ wide tables stages (HeldPartial stage calls schema) l (fits, small) f p =
     subst (λ n. HaveWidth n (finish_rows (length schema - length calls) calls (stages stage.0))) whole
     (finish-wide (length schema - length calls) calls (stages stage.0)
     (subst (λ n. HaveWidth n (stages stage.0)) (sym whole) f)))
-wide tables stages (sampled stage child) l s f (inl h) = wide tables stages child l s f h
+wide tables stages (sampled stage child) l s f (inl h) = wide tables stages child l s.1 f.1 h
 wide tables stages (sampled stage child) l s f (inr (e, held)) = rw e (All-nil (Wide (width child)))
 
 pub have_the_width : AnswersHaveTheWidth
-have_the_width tables stages plan l (s, leaves) f h = wide tables stages plan l s f h
+have_the_width tables stages plan l (s, leaves) f h = wide tables stages plan l (each IsSound plan s) (each (Fits tables stages) plan f) h

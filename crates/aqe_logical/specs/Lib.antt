@@ -1,5 +1,6 @@
 pub mod Shapes
 pub mod Columns
+pub mod Nodes
 pub mod Groups
 pub mod Joins
 pub mod Order

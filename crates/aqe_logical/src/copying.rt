@@ -5,6 +5,7 @@ ghost use Rattle.std.specs.Prelude.{◌≡◌, IfOk};
 use crate::parts::{copy_calls, copy_expr, copy_exprs, copy_schema, copy_sort_keys};
 use crate::{AggCalls, Exprs, Logical, Placement, SortKeys};
 use aqe_base::{JoinKind, Memory, StageId};
+use aqe_boxes::{all_three, both};
 use aqe_expr::Expr;
 use aqe_values::Schema;
 use std::alloc::Global;
@@ -16,76 +17,40 @@ pub fn copy(alloc: Global, logical: &Logical) -> Result<Logical, Memory>
 {
     match logical {
         Logical::OneRow => Ok(Logical::OneRow),
-        Logical::Scan { table, schema } => {
-            let copied = scan(alloc, *table, schema)?;
-            Ok(copied)
-        }
-        Logical::Filter { cond, child } => {
-            let copied = filter(alloc, cond, child.get())?;
-            Ok(copied)
-        }
+        Logical::Scan { table, schema } => scan(alloc, *table, schema),
+        Logical::Filter { cond, child } => filter(alloc, cond, child.get()),
         Logical::Project {
             items,
             schema,
             child,
-        } => {
-            let copied = project(alloc, items, schema, child.get())?;
-            Ok(copied)
-        }
+        } => project(alloc, items, schema, child.get()),
         Logical::Join {
             kind,
             cond,
             left,
             right,
-        } => {
-            let copied = join(alloc, *kind, cond, left.get(), right.get())?;
-            Ok(copied)
-        }
+        } => join(alloc, *kind, cond, left.get(), right.get()),
         Logical::Aggregate {
             keys,
             calls,
             schema,
             child,
-        } => {
-            let copied = aggregate(alloc, keys, calls, schema, child.get())?;
-            Ok(copied)
-        }
-        Logical::Union { left, right } => {
-            let copied = union(alloc, left.get(), right.get())?;
-            Ok(copied)
-        }
-        Logical::Sort { keys, child } => {
-            let copied = sort(alloc, keys, child.get())?;
-            Ok(copied)
-        }
-        Logical::Limit { count, skip, child } => {
-            let copied = limit(alloc, *count, *skip, child.get())?;
-            Ok(copied)
-        }
-        Logical::Empty { schema } => {
-            let copied = empty(alloc, schema)?;
-            Ok(copied)
-        }
+        } => aggregate(alloc, keys, calls, schema, child.get()),
+        Logical::Union { left, right } => union(alloc, left.get(), right.get()),
+        Logical::Sort { keys, child } => sort(alloc, keys, child.get()),
+        Logical::Limit { count, skip, child } => limit(alloc, *count, *skip, child.get()),
+        Logical::Empty { schema } => empty(alloc, schema),
         Logical::Held {
             stage,
             place,
             schema,
-        } => {
-            let copied = held(alloc, *stage, place, schema)?;
-            Ok(copied)
-        }
+        } => held(alloc, *stage, place, schema),
         Logical::HeldPartial {
             stage,
             calls,
             schema,
-        } => {
-            let copied = held_partial(alloc, *stage, calls, schema)?;
-            Ok(copied)
-        }
-        Logical::Sampled { stage, child } => {
-            let copied = sampled(alloc, *stage, child.get())?;
-            Ok(copied)
-        }
+        } => held_partial(alloc, *stage, calls, schema),
+        Logical::Sampled { stage, child } => sampled(alloc, *stage, child.get()),
     }
 }
 
@@ -93,16 +58,14 @@ fn scan(alloc: Global, table: u32, schema: &Schema) -> Result<Logical, Memory>
     ensures { IfOk result (λ p. p ≡ Logical.Scan table schema.now) }
 {
     let schema = copy_schema(alloc, schema)?;
-    let made = Logical::Scan { table, schema };
-    Ok(made)
+    Ok(Logical::Scan { table, schema })
 }
 
 fn empty(alloc: Global, schema: &Schema) -> Result<Logical, Memory>
     ensures { IfOk result (λ p. p ≡ Logical.Empty schema.now) }
 {
     let schema = copy_schema(alloc, schema)?;
-    let made = Logical::Empty { schema };
-    Ok(made)
+    Ok(Logical::Empty { schema })
 }
 
 fn held(
@@ -113,14 +76,12 @@ fn held(
 ) -> Result<Logical, Memory>
     ensures { IfOk result (λ p. p ≡ Logical.Held stage place.now schema.now) }
 {
-    let place = place.copy(alloc)?;
-    let schema = copy_schema(alloc, schema)?;
-    let made = Logical::Held {
+    let (place, schema) = both(place.copy(alloc), copy_schema(alloc, schema))?;
+    Ok(Logical::Held {
         stage,
         place,
         schema,
-    };
-    Ok(made)
+    })
 }
 
 fn held_partial(
@@ -131,24 +92,20 @@ fn held_partial(
 ) -> Result<Logical, Memory>
     ensures { IfOk result (λ p. p ≡ Logical.HeldPartial stage calls.now schema.now) }
 {
-    let calls = copy_calls(alloc, calls)?;
-    let schema = copy_schema(alloc, schema)?;
-    let made = Logical::HeldPartial {
+    let (calls, schema) = both(copy_calls(alloc, calls), copy_schema(alloc, schema))?;
+    Ok(Logical::HeldPartial {
         stage,
         calls,
         schema,
-    };
-    Ok(made)
+    })
 }
 
 #[cycle(copy)]
 fn filter(alloc: Global, cond: &Expr, child: &Logical) -> Result<Logical, Memory>
     ensures { IfOk result (λ p. p ≡ Logical.Filter cond.now child.now) }
 {
-    let cond = copy_expr(alloc, cond)?;
-    let child = copy(alloc, child)?;
-    let made = Logical::filter(alloc, cond, child)?;
-    Ok(made)
+    let (cond, child) = both(copy_expr(alloc, cond), copy(alloc, child))?;
+    Logical::filter(alloc, cond, child)
 }
 
 #[cycle(copy)]
@@ -160,11 +117,12 @@ fn project(
 ) -> Result<Logical, Memory>
     ensures { IfOk result (λ p. p ≡ Logical.Project items.now schema.now child.now) }
 {
-    let items = copy_exprs(alloc, items)?;
-    let schema = copy_schema(alloc, schema)?;
-    let child = copy(alloc, child)?;
-    let made = Logical::project(alloc, items, schema, child)?;
-    Ok(made)
+    let (items, schema, child) = all_three(
+        copy_exprs(alloc, items),
+        copy_schema(alloc, schema),
+        copy(alloc, child),
+    )?;
+    Logical::project(alloc, items, schema, child)
 }
 
 #[cycle(copy)]
@@ -177,11 +135,12 @@ fn join(
 ) -> Result<Logical, Memory>
     ensures { IfOk result (λ p. p ≡ Logical.Join kind cond.now left.now right.now) }
 {
-    let cond = copy_expr(alloc, cond)?;
-    let left = copy(alloc, left)?;
-    let right = copy(alloc, right)?;
-    let made = Logical::join(alloc, kind, cond, left, right)?;
-    Ok(made)
+    let (cond, left, right) = all_three(
+        copy_expr(alloc, cond),
+        copy(alloc, left),
+        copy(alloc, right),
+    )?;
+    Logical::join(alloc, kind, cond, left, right)
 }
 
 #[cycle(copy)]
@@ -194,32 +153,27 @@ fn aggregate(
 ) -> Result<Logical, Memory>
     ensures { IfOk result (λ p. p ≡ Logical.Aggregate keys.now calls.now schema.now child.now) }
 {
-    let keys = copy_exprs(alloc, keys)?;
-    let calls = copy_calls(alloc, calls)?;
-    let schema = copy_schema(alloc, schema)?;
-    let child = copy(alloc, child)?;
-    let made = Logical::aggregate(alloc, keys, calls, schema, child)?;
-    Ok(made)
+    let ((keys, calls), (schema, child)) = both(
+        both(copy_exprs(alloc, keys), copy_calls(alloc, calls)),
+        both(copy_schema(alloc, schema), copy(alloc, child)),
+    )?;
+    Logical::aggregate(alloc, keys, calls, schema, child)
 }
 
 #[cycle(copy)]
 fn union(alloc: Global, left: &Logical, right: &Logical) -> Result<Logical, Memory>
     ensures { IfOk result (λ p. p ≡ Logical.Union left.now right.now) }
 {
-    let left = copy(alloc, left)?;
-    let right = copy(alloc, right)?;
-    let made = Logical::union(alloc, left, right)?;
-    Ok(made)
+    let (left, right) = both(copy(alloc, left), copy(alloc, right))?;
+    Logical::union(alloc, left, right)
 }
 
 #[cycle(copy)]
 fn sort(alloc: Global, keys: &SortKeys, child: &Logical) -> Result<Logical, Memory>
     ensures { IfOk result (λ p. p ≡ Logical.Sort keys.now child.now) }
 {
-    let keys = copy_sort_keys(alloc, keys)?;
-    let child = copy(alloc, child)?;
-    let made = Logical::sort(alloc, keys, child)?;
-    Ok(made)
+    let (keys, child) = both(copy_sort_keys(alloc, keys), copy(alloc, child))?;
+    Logical::sort(alloc, keys, child)
 }
 
 #[cycle(copy)]
@@ -227,8 +181,7 @@ fn limit(alloc: Global, count: Option<u64>, skip: u64, child: &Logical) -> Resul
     ensures { IfOk result (λ p. p ≡ Logical.Limit count skip child.now) }
 {
     let child = copy(alloc, child)?;
-    let made = Logical::limit(alloc, count, skip, child)?;
-    Ok(made)
+    Logical::limit(alloc, count, skip, child)
 }
 
 #[cycle(copy)]
@@ -236,6 +189,5 @@ fn sampled(alloc: Global, stage: StageId, child: &Logical) -> Result<Logical, Me
     ensures { IfOk result (λ p. p ≡ Logical.Sampled stage child.now) }
 {
     let child = copy(alloc, child)?;
-    let made = Logical::sampled(alloc, stage, child)?;
-    Ok(made)
+    Logical::sampled(alloc, stage, child)
 }

@@ -3,6 +3,7 @@
 ghost use Rattle.std.specs.Prelude.{◌≡◌, IfOk};
 
 use aqe_base::{JoinKind, Listing, Memory, StageId};
+use aqe_boxes::boxed_pair;
 use aqe_expr::Expr;
 use aqe_values::{Schema, SortWay};
 use sqlite_items::Boxed;
@@ -176,8 +177,7 @@ impl Logical {
     ) -> Result<Logical, Memory>
         ensures { IfOk result (λ p. p ≡ Logical.Join kind cond left right) }
     {
-        let left = Boxed::new(alloc, left)?;
-        let right = Boxed::new(alloc, right)?;
+        let (left, right) = boxed_pair(alloc, left, right)?;
         Ok(Logical::Join {
             kind,
             cond,
@@ -209,8 +209,7 @@ impl Logical {
     pub fn union(alloc: Global, left: Logical, right: Logical) -> Result<Logical, Memory>
         ensures { IfOk result (λ p. p ≡ Logical.Union left right) }
     {
-        let left = Boxed::new(alloc, left)?;
-        let right = Boxed::new(alloc, right)?;
+        let (left, right) = boxed_pair(alloc, left, right)?;
         Ok(Logical::Union { left, right })
     }
 

@@ -1,5 +1,5 @@
 -- Readers of the parts of CASE.
-use Rattle.std.proofs.Common.{List, [], ◌∷◌, ◌++◌, ◌≡◌, ◌≤◌, length, refl, sym, ap, subst, arith, lit<}
+use Rattle.std.proofs.Common.{List, [], ◌∷◌, ◌++◌, ◌≡◌, ◌≤◌, ◌<◌, length, refl, sym, ap, subst, arith, lit<}
 use Rattle.std.specs.Prelude.{Option, Some, None}
 use Rattle.std.proofs.lemmas.List.{append_assoc, append-nil}
 use Rattle.aqe_trees.specs.declared.terminal.Key.TheVariants as k
@@ -119,7 +119,7 @@ pub record ArmsLeft (ts rest : List Terminal) (arms : List Arm) : Type 0 where
   pub back : (t : List Arm) (other : Option OrTree) (us : List Terminal) → IsArms t other ts us → (ys : List Arm) × (t ≡ arms ++ ys) × IsArms ys other rest us
   pub within : length rest ≤ length ts
 
-pub arms_begin : {ts : List Terminal} → ArmsLeft ts ts []
+arms_begin : {ts : List Terminal} → ArmsLeft ts ts []
 arms_begin = record {
   more = λ ys other us d. d;
   back = λ t other us d. (t, refl, d);
@@ -149,6 +149,22 @@ arms_step {first = first} {arms = arms} l e r = record {
   within = let a = l.within in let b = r.shorter in let c = ap length e in omega arith;
 }
 
+broken_back : {after us : List Terminal} {ys : List Arm} {other : Option OrTree} → Refuses IsArm 14 after → IsArms ys other (Fixed k.When ∷ after) us → ⊥
+broken_back n (when d e q) = n _ _ (arm_of d e) (arms_stop q)
+
+pub first_arm : {ts left : List Terminal} {first : Arm} {arms : List Arm} → Read IsArm 14 ts first left → arms ≡ [] ++ first ∷ [] →
+    ArmsLeft (Fixed k.When ∷ ts) left arms
+first_arm r e = rw e (arms_step arms_begin refl r)
+
+no_first_arm : {after ws : List Terminal} {v : List Arm × Option OrTree} → Refuses IsArm 14 after → IsBranches v (Fixed k.When ∷ after) ws → ⊥
+no_first_arm n d = broken_back n d
+
+pub first_refused : {ts : List Terminal} → Refuses IsArm 14 ts → Never IsBranches (Fixed k.When ∷ ts)
+first_refused n = λ v ws d. no_first_arm n d
+
+pub behind_arm : {rest after : List Terminal} (ts left : List Terminal) → rest ≡ Fixed k.When ∷ after → length rest < length ts → length left < length after → length left < length ts
+behind_arm ts left e a b = let c = ap length e in omega arith
+
 armless : {rest us : List Terminal} {ys : List Arm} {other : Option OrTree} → ((us : List Terminal) → rest ≡ Fixed k.When ∷ us → ⊥) → IsArms ys other rest us →
     (ys ≡ []) × IsArms [] other rest us
 armless n end = (refl, end)
@@ -174,9 +190,6 @@ branches_taken {ts = ts} {left = left} {arms = arms} {other = other} l n r = rec
   shorter = let a = l.within in let b = r.shorter in omega arith;
 }
 
-broken_back : {after us : List Terminal} {ys : List Arm} {other : Option OrTree} → Refuses IsArm 14 after → IsArms ys other (Fixed k.When ∷ after) us → ⊥
-broken_back n (when d e q) = n _ _ (arm_of d e) (arms_stop q)
-
 pub branches_broken : {ts rest after : List Terminal} {arms : List Arm} → ArmsLeft ts rest arms → rest ≡ Fixed k.When ∷ after →
     Refuses IsArm 14 after → Never IsBranches ts
 branches_broken l e n = λ v ws d. let b = l.back _ _ _ d in broken_back n (subst (λ x. IsArms b.0 v.1 x ws) e b.2)
@@ -186,11 +199,11 @@ pub branches_endless : {ts rest : List Terminal} {arms : List Arm} → ArmsLeft 
 branches_endless l n m = λ v ws d. let b = l.back _ _ _ d in m _ _ ((armless n b.2).1)
 
 -- the whole
-case_found : (arms : List Arm) {operand other : Option OrTree} {ts rest us : List Terminal} → IsOperand operand ts rest → IsArms arms other rest us → (arms ≡ [] → ⊥) →
-    IsPrimary (primary.Case operand arms other) (Fixed k.Case ∷ ts) us
-case_found [] o a n = absurd (n refl)
-case_found (first ∷ more) no_operand a n = case a
-case_found (first ∷ more) (an_operand d) a n = case_of d a
+case_found : (arms : List Arm) {operand other : Option OrTree} {ts rest us : List Terminal} → IsOperand operand ts (Fixed k.When ∷ rest) →
+    IsArms arms other (Fixed k.When ∷ rest) us → IsPrimary (primary.Case operand arms other) (Fixed k.Case ∷ ts) us
+case_found [] o a = elim a [ ]
+case_found (first ∷ more) no_operand a = case a
+case_found (first ∷ more) (an_operand d) a = case_of d a
 
 first_when : {first : Arm} {more : List Arm} {other : Option OrTree} {ts us : List Terminal} → IsArms (first ∷ more) other ts us → IsOperand None ts ts
 first_when (when d e q) = no_operand
@@ -210,29 +223,35 @@ case_only {arms = arms} {other = other} o b (case_of {operand = w} {first = firs
     let f : other ≡ u = ap (λ (x : List Arm × Option OrTree). x.1) q.0 in
     (cc, q.1)
 
-pub case_read : {arms : List Arm} {operand other : Option OrTree} {ts rest left : List Terminal} → Part IsOperand 14 ts operand rest →
-    Taken IsBranches rest (arms, other) left → (arms ≡ [] → ⊥) → Part (λ t xs ys. IsPrimary t (Fixed k.Case ∷ xs) ys) 20 ts (primary.Case operand arms other) left
-case_read {arms = arms} o b n = record {
-  found = case_found arms o.found b.found n;
+case_at : {arms : List Arm} {operand other : Option OrTree} {ts after left : List Terminal} → Part IsOperand 14 ts operand (Fixed k.When ∷ after) →
+    Taken IsBranches (Fixed k.When ∷ after) (arms, other) left → Part (λ t xs ys. IsPrimary t (Fixed k.Case ∷ xs) ys) 20 ts (primary.Case operand arms other) left
+case_at {arms = arms} o b = record {
+  found = case_found arms o.found b.found;
   only = λ v ws d s. case_only o b d;
   within = let x = o.within in let y = b.shorter in omega arith;
 }
+
+pub case_read : {arms : List Arm} {operand other : Option OrTree} {ts rest after left : List Terminal} → Part IsOperand 14 ts operand rest →
+    rest ≡ Fixed k.When ∷ after → Taken IsBranches (Fixed k.When ∷ after) (arms, other) left →
+    Part (λ t xs ys. IsPrimary t (Fixed k.Case ∷ xs) ys) 20 ts (primary.Case operand arms other) left
+case_read {operand = operand} {ts = ts} o e b = case_at (subst (λ x. Part IsOperand 14 ts operand x) e o) b
 
 never_case : {operand : Option OrTree} {ts rest ws : List Terminal} {v : PrimaryTree} → Part IsOperand 14 ts operand rest →
     ((first : Arm) (more : List Arm) (other : Option OrTree) (us : List Terminal) → IsArms (first ∷ more) other rest us → ⊥) → IsPrimary v (Fixed k.Case ∷ ts) ws → ⊥
 never_case o n (case a) = n _ _ _ _ (at_arms ((o.only None _ (first_when a) (arms_stop a)).1) a)
 never_case o n (case_of {operand = w} d a) = n _ _ _ _ (at_arms ((o.only (Some w) _ (an_operand d) (arms_stop a)).1) a)
 
-pub case_armless : {arms : List Arm} {operand other : Option OrTree} {ts rest left : List Terminal} → Part IsOperand 14 ts operand rest →
-    Taken IsBranches rest (arms, other) left → arms ≡ [] → Refuses (λ t xs ys. IsPrimary t (Fixed k.Case ∷ xs) ys) 20 ts
-case_armless {arms = arms} o b e = λ v ws d s. never_case o (λ first more u us a.
-    let p = b.only (first ∷ more, u) us a in
-    let h : arms ≡ first ∷ more = ap (λ (x : List Arm × Option OrTree). x.0) p.0 in
-    absurd (cc)) d
+no_when_first : {first : Arm} {more : List Arm} {other : Option OrTree} {ts us : List Terminal} → ((vs : List Terminal) → ts ≡ Fixed k.When ∷ vs → ⊥) →
+    IsArms (first ∷ more) other ts us → ⊥
+no_when_first n (when d e q) = n _ refl
 
-pub case_endless : {operand : Option OrTree} {ts rest : List Terminal} → Part IsOperand 14 ts operand rest →
-    Never IsBranches rest → Refuses (λ t xs ys. IsPrimary t (Fixed k.Case ∷ xs) ys) 20 ts
-case_endless o n = λ v ws d s. never_case o (λ first more other us a. n (first ∷ more, other) us a) d
+pub case_armless : {operand : Option OrTree} {ts rest : List Terminal} → Part IsOperand 14 ts operand rest →
+    ((us : List Terminal) → rest ≡ Fixed k.When ∷ us → ⊥) → Refuses (λ t xs ys. IsPrimary t (Fixed k.Case ∷ xs) ys) 20 ts
+case_armless o n = λ v ws d s. never_case o (λ first more u us a. no_when_first n a) d
+
+pub case_endless : {operand : Option OrTree} {ts rest after : List Terminal} → Part IsOperand 14 ts operand rest → rest ≡ Fixed k.When ∷ after →
+    Never IsBranches (Fixed k.When ∷ after) → Refuses (λ t xs ys. IsPrimary t (Fixed k.Case ∷ xs) ys) 20 ts
+case_endless o e n = λ v ws d s. never_case o (λ first more other us a. n (first ∷ more, other) us (at_arms (sym e) a)) d
 
 no_case : {ts ws : List Terminal} {v : PrimaryTree} → Refuses IsOperand 14 ts → IsPrimary v (Fixed k.Case ∷ ts) ws → ⊥
 no_case n (case a) = n None _ (first_when a) (arms_stop a)

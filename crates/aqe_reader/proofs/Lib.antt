@@ -8,3 +8,4 @@ pub mod AndChain
 pub mod ComparisonChain
 pub mod SumChain
 pub mod ProductChain
+pub mod Outcomes

@@ -1,6 +1,6 @@
 -- Readings of operands.
-use Rattle.std.proofs.Common.{ℕ, List, ◌∷◌, ◌≡◌, ◌≤◌, length, refl, sym, ap, subst, arith, lit<}
-use Rattle.std.specs.Prelude.{Bool, true, false, Some}
+use Rattle.std.proofs.Common.{ℕ, List, ◌∷◌, ◌≡◌, ◌≤◌, ◌<◌, length, refl, sym, ap, subst, arith, lit<}
+use Rattle.std.specs.Prelude.{Bool, true, false, Some, None}
 use Rattle.aqe_values.specs.declared.sql_type.SqlType.{SqlType}
 use Rattle.aqe_trees.specs.declared.terminal.Key.{Key}
 use Rattle.aqe_trees.specs.declared.terminal.Key.TheVariants as k
@@ -13,7 +13,8 @@ use Rattle.aqe_trees.specs.Words.{type_of, is_word, count_word}
 use Rattle.aqe_trees.specs.Follow.{Stops}
 use Rattle.aqe_trees.specs.Expressions.{IsOr, IsList, IsPrimary, number, negative_number, literal, is_true, is_false, null, column, table_column, paren, cast, case, case_of, count_all, call}
 use Rattle.aqe_trees.proofs.OneExpression.{no_star}
-use Rattle.aqe_reader.specs.Reading.{Read, Part, Refuses}
+use Rattle.aqe_reader.specs.Reading.{Read, Part, Refuses, Never}
+use Rattle.aqe_reader.specs.Steps.{IsAsType, as_type}
 
 -- numbers
 number_only : {value : ℕ} {long : Bool} {ts ws : List Terminal} {v : PrimaryTree} → IsPrimary v (Number value long ∷ ts) ws →
@@ -82,30 +83,74 @@ pub paren_unclosed : {ts rest : List Terminal} {value : OrTree} → Read IsOr 14
     Refuses (λ t xs ys. IsPrimary t (Fixed k.Open ∷ xs) ys) 20 ts
 paren_unclosed r n = λ v ws d s. paren_open r n d
 
--- CAST ( or AS type )
-cast_only : {inside rest left ws : List Terminal} {t : Terminal} {kind : SqlType} {value : OrTree} {v : PrimaryTree} → Read IsOr 14 inside value rest →
-    rest ≡ Fixed k.As ∷ t ∷ Fixed k.Close ∷ left → type_of t ≡ Some kind →
-    IsPrimary v (Fixed k.Cast ∷ Fixed k.Open ∷ inside) ws → (primary.Cast value kind ≡ v) × (left ≡ ws)
-cast_only r e o (cast d i) = let p = r.only _ _ d (lit< tt) in (cc, cc)
+-- AS type )
+type_word : {ts after rest left : List Terminal} {t : Terminal} {kind : SqlType} → ts ≡ Fixed k.As ∷ after → after ≡ t ∷ rest →
+    type_of t ≡ Some kind → rest ≡ Fixed k.Close ∷ left → IsAsType kind ts left
+type_word {t = t} e f o g = rw (e, f, g) (as_type {t = t} o)
 
-pub cast_read : {ts inside rest left : List Terminal} {t : Terminal} {kind : SqlType} {value : OrTree} → ts ≡ Fixed k.Open ∷ inside → Read IsOr 14 inside value rest →
-    rest ≡ Fixed k.As ∷ t ∷ Fixed k.Close ∷ left → type_of t ≡ Some kind →
+pub as_type_read : {ts after rest left : List Terminal} {kind : SqlType} → ts ≡ Fixed k.As ∷ after →
+    (t : Terminal) × (after ≡ t ∷ rest) × (type_of t ≡ Some kind) → rest ≡ Fixed k.Close ∷ left → IsAsType kind ts left
+as_type_read e h g = type_word e h.1 h.2 g
+
+no_as : {kind : SqlType} {ts us : List Terminal} → ((vs : List Terminal) → ts ≡ Fixed k.As ∷ vs → ⊥) → IsAsType kind ts us → ⊥
+no_as n (as_type o) = n _ refl
+
+pub as_refused : {ts : List Terminal} → ((vs : List Terminal) → ts ≡ Fixed k.As ∷ vs → ⊥) → Never IsAsType ts
+as_refused n v ws d = no_as n d
+
+no_type : {kind : SqlType} {after us : List Terminal} → ((t : Terminal) (vs : List Terminal) → after ≡ t ∷ vs → type_of t ≡ None) →
+    IsAsType kind (Fixed k.As ∷ after) us → ⊥
+no_type n (as_type {t = t} o) = let h = n t _ refl in cc
+
+pub type_refused : {ts after : List Terminal} → ts ≡ Fixed k.As ∷ after →
+    ((t : Terminal) (vs : List Terminal) → after ≡ t ∷ vs → type_of t ≡ None) → Never IsAsType ts
+type_refused e n = rw e (λ v ws d. no_type n d)
+
+no_type_close : {kind : SqlType} {t : Terminal} {rest us : List Terminal} → ((vs : List Terminal) → rest ≡ Fixed k.Close ∷ vs → ⊥) →
+    IsAsType kind (Fixed k.As ∷ t ∷ rest) us → ⊥
+no_type_close n (as_type o) = n _ refl
+
+pub type_close_refused : {ts after rest : List Terminal} {t : Terminal} → ts ≡ Fixed k.As ∷ after → after ≡ t ∷ rest →
+    ((vs : List Terminal) → rest ≡ Fixed k.Close ∷ vs → ⊥) → Never IsAsType ts
+type_close_refused e f n = rw (e, f) (λ v ws d. no_type_close n d)
+
+as_type_only : {a b : SqlType} {ts us vs : List Terminal} → IsAsType a ts us → IsAsType b ts vs → (a ≡ b) × (us ≡ vs)
+as_type_only (as_type o) (as_type i) = (cc, refl)
+
+as_type_shorter : {a : SqlType} {ts us : List Terminal} → IsAsType a ts us → length us < length ts
+as_type_shorter (as_type o) = omega arith
+
+at_type : {kind : SqlType} {a b us : List Terminal} → a ≡ b → IsAsType kind b us → IsAsType kind a us
+at_type {kind = kind} {us = us} e d = subst (λ x. IsAsType kind x us) (sym e) d
+
+-- CAST ( or AS type )
+cast_only : {inside rest left ws : List Terminal} {kind : SqlType} {value : OrTree} {v : PrimaryTree} → Read IsOr 14 inside value rest →
+    IsAsType kind rest left → IsPrimary v (Fixed k.Cast ∷ Fixed k.Open ∷ inside) ws → (primary.Cast value kind ≡ v) × (left ≡ ws)
+cast_only r a (cast d i) =
+    let p = r.only _ _ d (lit< tt) in
+    let q = as_type_only a (at_type p.1 (as_type i)) in
+    (cc, q.1)
+
+cast_found : {inside rest left : List Terminal} {kind : SqlType} {value : OrTree} → IsOr value inside rest → IsAsType kind rest left →
+    IsPrimary (primary.Cast value kind) (Fixed k.Cast ∷ Fixed k.Open ∷ inside) left
+cast_found d (as_type o) = cast d o
+
+pub cast_read : {ts inside rest left : List Terminal} {kind : SqlType} {value : OrTree} → ts ≡ Fixed k.Open ∷ inside → Read IsOr 14 inside value rest →
+    IsAsType kind rest left →
     Part (λ t xs ys. IsPrimary t (Fixed k.Cast ∷ xs) ys) 20 ts (primary.Cast value kind) left
-cast_read {inside = inside} {left = left} {kind = kind} {value = value} b r e o =
+cast_read {inside = inside} {left = left} {kind = kind} {value = value} b r a =
     subst (λ x. Part (λ t xs ys. IsPrimary t (Fixed k.Cast ∷ xs) ys) 20 x (primary.Cast value kind) left) (sym b) (record {
-      found = cast (subst (λ x. IsOr value inside x) e r.found) o;
-      only = λ v ws d s. cast_only r e o d;
-      within = let a = r.shorter in let c = ap length e in omega arith;
+      found = cast_found r.found a;
+      only = λ v ws d s. cast_only r a d;
+      within = let x = r.shorter in let y = as_type_shorter a in omega arith;
     })
 
 cast_open : {inside rest ws : List Terminal} {value : OrTree} {v : PrimaryTree} → Read IsOr 14 inside value rest →
-    ((kind : SqlType) (t : Terminal) (us : List Terminal) → rest ≡ Fixed k.As ∷ t ∷ Fixed k.Close ∷ us → type_of t ≡ Some kind → ⊥) →
-    IsPrimary v (Fixed k.Cast ∷ Fixed k.Open ∷ inside) ws → ⊥
-cast_open r n (cast d i) = n _ _ _ ((r.only _ _ d (lit< tt)).1) i
+    Never IsAsType rest → IsPrimary v (Fixed k.Cast ∷ Fixed k.Open ∷ inside) ws → ⊥
+cast_open r n (cast d i) = n _ _ (at_type ((r.only _ _ d (lit< tt)).1) (as_type i))
 
 pub cast_untyped : {ts inside rest : List Terminal} {value : OrTree} → ts ≡ Fixed k.Open ∷ inside → Read IsOr 14 inside value rest →
-    ((kind : SqlType) (t : Terminal) (us : List Terminal) → rest ≡ Fixed k.As ∷ t ∷ Fixed k.Close ∷ us → type_of t ≡ Some kind → ⊥) →
-    Refuses (λ t xs ys. IsPrimary t (Fixed k.Cast ∷ xs) ys) 20 ts
+    Never IsAsType rest → Refuses (λ t xs ys. IsPrimary t (Fixed k.Cast ∷ xs) ys) 20 ts
 cast_untyped b r n = subst (λ x. Refuses (λ t xs ys. IsPrimary t (Fixed k.Cast ∷ xs) ys) 20 x) (sym b) (λ v ws d s. cast_open r n d)
 
 -- name . name
@@ -151,15 +196,25 @@ all_only column s = absurd (omega arith)
 all_only (count_all e) s = (refl, refl)
 all_only (call d) s = absurd (no_star d)
 
-pub all_read : {text : List ℕ} {quoted : Bool} {ts left : List Terminal} → is_word count_word text ≡ true → ts ≡ Fixed k.Star ∷ Fixed k.Close ∷ left →
-    Part (λ t xs ys. IsPrimary t (Name text quoted ∷ Fixed k.Open ∷ xs) ys) 20 ts primary.CountAll left
+pub all_read : {text : List ℕ} {quoted : Bool} {ts left : List Terminal} → is_word count_word text ≡ true → ts ≡ Fixed k.Close ∷ left →
+    Part (λ t xs ys. IsPrimary t (Name text quoted ∷ Fixed k.Open ∷ Fixed k.Star ∷ xs) ys) 20 ts primary.CountAll left
 all_read {text = text} {quoted = quoted} {left = left} w e =
-    subst (λ x. Part (λ t xs ys. IsPrimary t (Name text quoted ∷ Fixed k.Open ∷ xs) ys) 20 x primary.CountAll left) (sym e)
+    subst (λ x. Part (λ t xs ys. IsPrimary t (Name text quoted ∷ Fixed k.Open ∷ Fixed k.Star ∷ xs) ys) 20 x primary.CountAll left) (sym e)
     (record { found = count_all w; only = λ v ws d s. all_only d s; within = omega arith })
+
+no_all : {text : List ℕ} {quoted : Bool} {ts ws : List Terminal} {v : PrimaryTree} → ((us : List Terminal) → ts ≡ Fixed k.Close ∷ us → ⊥) →
+    IsPrimary v (Name text quoted ∷ Fixed k.Open ∷ Fixed k.Star ∷ ts) ws → Stops 20 ws → ⊥
+no_all n column s = omega arith
+no_all n (count_all e) s = n _ refl
+no_all n (call d) s = no_star d
+
+pub all_refused : {text : List ℕ} {quoted : Bool} {ts : List Terminal} → ((us : List Terminal) → ts ≡ Fixed k.Close ∷ us → ⊥) →
+    Refuses (λ t xs ys. IsPrimary t (Name text quoted ∷ Fixed k.Open ∷ Fixed k.Star ∷ xs) ys) 20 ts
+all_refused n = λ v ws d s. no_all n d s
 
 -- name ( or {, or} )
 call_only : {text : List ℕ} {quoted : Bool} {ts rest left ws : List Terminal} {arguments : List OrTree} {v : PrimaryTree} →
-    ((us : List Terminal) → is_word count_word text ≡ true → ts ≡ Fixed k.Star ∷ Fixed k.Close ∷ us → ⊥) →
+    ((us : List Terminal) → is_word count_word text ≡ true → ts ≡ Fixed k.Star ∷ us → ⊥) →
     Read IsList 9 ts arguments rest → rest ≡ Fixed k.Close ∷ left →
     IsPrimary v (Name text quoted ∷ Fixed k.Open ∷ ts) ws → Stops 20 ws → (primary.Call text arguments ≡ v) × (left ≡ ws)
 call_only n r e column s = absurd (omega arith)
@@ -167,7 +222,7 @@ call_only n r e (count_all w) s = absurd (n _ w refl)
 call_only n r e (call d) s = let p = r.only _ _ d (lit< tt) in (cc, cc)
 
 pub call_read : {text : List ℕ} {quoted : Bool} {ts rest left : List Terminal} {arguments : List OrTree} →
-    ((us : List Terminal) → is_word count_word text ≡ true → ts ≡ Fixed k.Star ∷ Fixed k.Close ∷ us → ⊥) →
+    ((us : List Terminal) → is_word count_word text ≡ true → ts ≡ Fixed k.Star ∷ us → ⊥) →
     Read IsList 9 ts arguments rest → rest ≡ Fixed k.Close ∷ left →
     Part (λ t xs ys. IsPrimary t (Name text quoted ∷ Fixed k.Open ∷ xs) ys) 20 ts (primary.Call text arguments) left
 call_read {ts = ts} {arguments = arguments} n r e = record {
@@ -177,7 +232,7 @@ call_read {ts = ts} {arguments = arguments} n r e = record {
 }
 
 call_open : {text : List ℕ} {quoted : Bool} {ts rest ws : List Terminal} {arguments : List OrTree} {v : PrimaryTree} →
-    ((us : List Terminal) → is_word count_word text ≡ true → ts ≡ Fixed k.Star ∷ Fixed k.Close ∷ us → ⊥) →
+    ((us : List Terminal) → is_word count_word text ≡ true → ts ≡ Fixed k.Star ∷ us → ⊥) →
     Read IsList 9 ts arguments rest → ((us : List Terminal) → rest ≡ Fixed k.Close ∷ us → ⊥) →
     IsPrimary v (Name text quoted ∷ Fixed k.Open ∷ ts) ws → Stops 20 ws → ⊥
 call_open n r m column s = omega arith
@@ -185,20 +240,20 @@ call_open n r m (count_all w) s = n _ w refl
 call_open n r m (call d) s = m _ ((r.only _ _ d (lit< tt)).1)
 
 pub call_unclosed : {text : List ℕ} {quoted : Bool} {ts rest : List Terminal} {arguments : List OrTree} →
-    ((us : List Terminal) → is_word count_word text ≡ true → ts ≡ Fixed k.Star ∷ Fixed k.Close ∷ us → ⊥) →
+    ((us : List Terminal) → is_word count_word text ≡ true → ts ≡ Fixed k.Star ∷ us → ⊥) →
     Read IsList 9 ts arguments rest → ((us : List Terminal) → rest ≡ Fixed k.Close ∷ us → ⊥) →
     Refuses (λ t xs ys. IsPrimary t (Name text quoted ∷ Fixed k.Open ∷ xs) ys) 20 ts
 call_unclosed n r m = λ v ws d s. call_open n r m d s
 
 call_empty : {text : List ℕ} {quoted : Bool} {ts ws : List Terminal} {v : PrimaryTree} →
-    ((us : List Terminal) → is_word count_word text ≡ true → ts ≡ Fixed k.Star ∷ Fixed k.Close ∷ us → ⊥) →
+    ((us : List Terminal) → is_word count_word text ≡ true → ts ≡ Fixed k.Star ∷ us → ⊥) →
     Refuses IsList 9 ts → IsPrimary v (Name text quoted ∷ Fixed k.Open ∷ ts) ws → Stops 20 ws → ⊥
 call_empty n m column s = omega arith
 call_empty n m (count_all w) s = n _ w refl
 call_empty n m (call d) s = m _ _ d (lit< tt)
 
 pub call_refused : {text : List ℕ} {quoted : Bool} {ts : List Terminal} →
-    ((us : List Terminal) → is_word count_word text ≡ true → ts ≡ Fixed k.Star ∷ Fixed k.Close ∷ us → ⊥) →
+    ((us : List Terminal) → is_word count_word text ≡ true → ts ≡ Fixed k.Star ∷ us → ⊥) →
     Refuses IsList 9 ts → Refuses (λ t xs ys. IsPrimary t (Name text quoted ∷ Fixed k.Open ∷ xs) ys) 20 ts
 call_refused n m = λ v ws d s. call_empty n m d s
 

@@ -13,7 +13,7 @@ use Rattle.aqe_trees.specs.declared.expression.Test.{Test}
 use Rattle.aqe_trees.specs.declared.expression.Test.TheVariants as test
 use Rattle.aqe_trees.specs.Shapes.{predicate_tree}
 use Rattle.aqe_trees.specs.Words.{truth_of}
-use Rattle.aqe_trees.specs.Follow.{Stops}
+use Rattle.aqe_trees.specs.Follow.{binds_at, Stops}
 use Rattle.aqe_trees.specs.Expressions.{IsPredicate, predicate_of, IsTest, plain, between, not_between, one_of, not_one_of, like, not_like, is_truth, is_not_truth, IsList, IsComparison}
 use Rattle.aqe_trees.proofs.OneExpression.{test_stop, at_test, at_comparison}
 use Rattle.aqe_reader.specs.Reading.{Read, Part, Refuses}
@@ -243,6 +243,29 @@ pub plain_read : (b : Bool) {ts rest : List Terminal} → Told ts b rest →
     ((us : List Terminal) → rest ≡ Fixed k.Between ∷ us → ⊥) → ((us : List Terminal) → rest ≡ Fixed k.In ∷ us → ⊥) →
     ((us : List Terminal) → rest ≡ Fixed k.Like ∷ us → ⊥) → ((us : List Terminal) → ts ≡ Fixed k.Is ∷ us → ⊥) → Part IsTest 16 ts test.Plain ts
 plain_read b e n m l i = record { found = plain; only = λ v ws d s. plain_only b e n m l i d; within = omega arith }
+
+-- NOT, and no test behind it
+no_negated : {ts rest ws : List Terminal} {v : Test} → ts ≡ Fixed k.Not ∷ rest →
+    ((us : List Terminal) → rest ≡ Fixed k.Between ∷ us → ⊥) → ((us : List Terminal) → rest ≡ Fixed k.In ∷ us → ⊥) →
+    ((us : List Terminal) → rest ≡ Fixed k.Like ∷ us → ⊥) → IsTest v ts ws → Stops 16 ws → ⊥
+no_negated e n m l plain s = let b = ap binds_at e in omega arith
+no_negated e n m l (between d f) s = absurd (cc)
+no_negated e n m l (not_between {ts = xs} d f) s = absurd (n xs (cc))
+no_negated e n m l (one_of d) s = absurd (cc)
+no_negated e n m l (not_one_of {ts = xs} d) s = absurd (m (Fixed k.Open ∷ xs) (cc))
+no_negated e n m l (like d) s = absurd (cc)
+no_negated e n m l (not_like {ts = xs} d) s = absurd (l xs (cc))
+no_negated e n m l (is_truth o) s = absurd (cc)
+no_negated e n m l (is_not_truth o) s = absurd (cc)
+
+negated_first : (b : Bool) {ts rest : List Terminal} → b ≡ true → Told ts b rest → ts ≡ Fixed k.Not ∷ rest
+negated_first true f e = e
+negated_first false f e = absurd (cc)
+
+pub negated_refused : (b : Bool) {ts rest : List Terminal} → b ≡ true → Told ts b rest →
+    ((us : List Terminal) → rest ≡ Fixed k.Between ∷ us → ⊥) → ((us : List Terminal) → rest ≡ Fixed k.In ∷ us → ⊥) →
+    ((us : List Terminal) → rest ≡ Fixed k.Like ∷ us → ⊥) → Refuses IsTest 16 ts
+negated_refused b f e n m l = λ v ws d s. no_negated (negated_first b f e) n m l d s
 
 -- a value and its test
 predicate_only : {ts rest left ws : List Terminal} {value : ComparisonTree} {asked : Test} {v : PredicateTree} → Read IsComparison 17 ts value rest →

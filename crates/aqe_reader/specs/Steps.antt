@@ -1,5 +1,6 @@
 -- What the readers of parts leave behind.
 use Rattle.std.specs.Prelude.{ℕ, List, ◌∷◌, ◌++◌, ◌+◌, ◌≤◌, ◌≡◌, Bool, true, false, Option, Some, None, length}
+use Rattle.aqe_values.specs.declared.sql_type.SqlType.{SqlType}
 use Rattle.aqe_trees.specs.declared.terminal.Key.TheVariants as k
 use Rattle.aqe_trees.specs.declared.terminal.Terminal.{Terminal}
 use Rattle.aqe_trees.specs.declared.terminal.Terminal.TheVariants.{Fixed}
@@ -9,6 +10,7 @@ use Rattle.aqe_trees.specs.declared.expression.PrimaryTree.{PrimaryTree}
 use Rattle.aqe_trees.specs.declared.expression.Sign.{Sign}
 use Rattle.aqe_trees.specs.declared.expression.Arm.{Arm}
 use Rattle.aqe_trees.specs.Shapes.{arm}
+use Rattle.aqe_trees.specs.Words.{type_of}
 use Rattle.aqe_trees.specs.Expressions.{IsOr, IsNots, IsSigns, IsArms}
 
 -- count NOTs stand before rest
@@ -37,6 +39,11 @@ Told ts false rest = (ts ≡ rest) × ((us : List Terminal) → ts ≡ Fixed k.N
 pub data IsOperand : Option OrTree → List Terminal → List Terminal → Type 0 where
   no_operand : {us : List Terminal} → IsOperand None (Fixed k.When ∷ us) (Fixed k.When ∷ us)
   an_operand : {value : OrTree} {ts us : List Terminal} → IsOr value ts us → IsOperand (Some value) ts us
+
+-- AS type )
+pub data IsAsType : SqlType → List Terminal → List Terminal → Type 0 where
+  as_type : {kind : SqlType} {t : Terminal} {us : List Terminal} → type_of t ≡ Some kind →
+      IsAsType kind (Fixed k.As ∷ t ∷ Fixed k.Close ∷ us) us
 
 -- or THEN or
 pub data IsArm : Arm → List Terminal → List Terminal → Type 0 where

@@ -9,8 +9,10 @@ ghost use Rattle.aqe_reader.specs.Nesting.{Nests};
 ghost use Rattle.aqe_reader.specs.Steps.{IsOperand, IsArm, IsBranches};
 
 use crate::ReadFault;
-use crate::cursor::eat;
+use crate::boxes::arm_of;
+use crate::cursor::{eat, expect};
 use crate::nest::{Nest, inner};
+use crate::pieces::{beside, more};
 use aqe_trees::{Arm, Key, OrTree, PrimaryTree, Terminal};
 use sqlite_items::{Boxed, Items};
 
@@ -20,7 +22,7 @@ pub(crate) fn case<'a, F>(
     terminals: &'a [Terminal],
 ) -> Result<(PrimaryTree, &'a [Terminal]), ReadFault>
 where
-    F: Fn(&'a [Terminal]) -> Result<(OrTree, &'a [Terminal]), ReadFault>,
+    F: Fn(&'a [Terminal]) -> Result<(Boxed<OrTree>, &'a [Terminal]), ReadFault>,
     requires nests { Nests F.Fn nest.now.read nest.now.room }
     requires room { length terminals.now < nest.now.room }
     ensures { MatchResult result
@@ -28,10 +30,8 @@ where
         (λ e. IsRefusal e → Refuses (λ t ts us. IsPrimary t (Fixed k.Case ∷ ts) us) 20 terminals.now) }
 {
     let (operand, rest) = operand(nest, terminals)?;
-    let ((arms, otherwise), left) = arms(nest, rest)?;
-    if arms.is_empty() {
-        return Err(ReadFault::Refused { left: left.len() });
-    }
+    let (operand, after) = beside(operand, expect(rest, Key::When))?;
+    let (operand, ((arms, otherwise), left)) = beside(operand, arms(nest, after))?;
     Ok((PrimaryTree::case(operand, arms, otherwise), left))
 }
 
@@ -41,7 +41,7 @@ fn operand<'a, F>(
     terminals: &'a [Terminal],
 ) -> Result<(Option<Boxed<OrTree>>, &'a [Terminal]), ReadFault>
 where
-    F: Fn(&'a [Terminal]) -> Result<(OrTree, &'a [Terminal]), ReadFault>,
+    F: Fn(&'a [Terminal]) -> Result<(Boxed<OrTree>, &'a [Terminal]), ReadFault>,
     requires nests { Nests F.Fn nest.now.read nest.now.room }
     requires room { length terminals.now < nest.now.room }
     ensures { MatchResult result
@@ -52,30 +52,27 @@ where
         return Ok((None, terminals));
     }
     let (value, left) = inner(nest, terminals)?;
-    Ok((Some(Boxed::new(nest.alloc, value)?), left))
+    Ok((Some(value), left))
 }
 
-/// `{WHEN or THEN or} [ELSE or] END`
+/// `or THEN or {WHEN or THEN or} [ELSE or] END`, behind WHEN.
 fn arms<'a, F>(
     nest: &Nest<F>,
     terminals: &'a [Terminal],
 ) -> Result<((Items<Arm>, Option<Boxed<OrTree>>), &'a [Terminal]), ReadFault>
 where
-    F: Fn(&'a [Terminal]) -> Result<(OrTree, &'a [Terminal]), ReadFault>,
+    F: Fn(&'a [Terminal]) -> Result<(Boxed<OrTree>, &'a [Terminal]), ReadFault>,
     requires nests { Nests F.Fn nest.now.read nest.now.room }
     requires room { length terminals.now < nest.now.room }
     ensures { MatchResult result
-        (λ x. Taken IsBranches terminals.now x.0 x.1.now)
-        (λ e. IsRefusal e → Never IsBranches terminals.now) }
+        (λ x. Taken IsBranches (Fixed k.When ∷ terminals.now) x.0 x.1.now)
+        (λ e. IsRefusal e → Never IsBranches (Fixed k.When ∷ terminals.now)) }
 {
-    let mut arms = Items::new(nest.alloc);
-    let mut rest = terminals;
+    let (mut arms, mut rest) = more(Items::new(nest.alloc), branch(nest, terminals))?;
     'more: while let Some(after) = eat(rest, Key::When) {
-        let (arm, left) = branch(nest, after)?;
-        arms.push(arm)?;
-        rest = left;
+        (arms, rest) = more(arms, branch(nest, after))?;
     }
-    let (otherwise, left) = ending(nest, rest)?;
+    let (arms, (otherwise, left)) = beside(arms, ending(nest, rest))?;
     Ok(((arms, otherwise), left))
 }
 
@@ -83,9 +80,9 @@ where
 fn branch<'a, F>(
     nest: &Nest<F>,
     terminals: &'a [Terminal],
-) -> Result<(Arm, &'a [Terminal]), ReadFault>
+) -> Result<(Boxed<Arm>, &'a [Terminal]), ReadFault>
 where
-    F: Fn(&'a [Terminal]) -> Result<(OrTree, &'a [Terminal]), ReadFault>,
+    F: Fn(&'a [Terminal]) -> Result<(Boxed<OrTree>, &'a [Terminal]), ReadFault>,
     requires nests { Nests F.Fn nest.now.read nest.now.room }
     requires room { length terminals.now < nest.now.room }
     ensures { MatchResult result
@@ -93,11 +90,9 @@ where
         (λ e. IsRefusal e → Refuses IsArm 14 terminals.now) }
 {
     let (when, rest) = inner(nest, terminals)?;
-    let Some(after) = eat(rest, Key::Then) else {
-        return Err(ReadFault::Refused { left: rest.len() });
-    };
-    let (gives, left) = inner(nest, after)?;
-    Ok((Arm::new(when, gives), left))
+    let (when, after) = beside(when, expect(rest, Key::Then))?;
+    let (when, (gives, left)) = beside(when, inner(nest, after))?;
+    Ok((arm_of(nest.alloc, when, gives)?, left))
 }
 
 /// `[ELSE or] END`
@@ -106,7 +101,7 @@ fn ending<'a, F>(
     terminals: &'a [Terminal],
 ) -> Result<(Option<Boxed<OrTree>>, &'a [Terminal]), ReadFault>
 where
-    F: Fn(&'a [Terminal]) -> Result<(OrTree, &'a [Terminal]), ReadFault>,
+    F: Fn(&'a [Terminal]) -> Result<(Boxed<OrTree>, &'a [Terminal]), ReadFault>,
     requires nests { Nests F.Fn nest.now.read nest.now.room }
     requires room { length terminals.now < nest.now.room }
     ensures { MatchResult result
@@ -116,14 +111,8 @@ where
     if let Some(left) = eat(terminals, Key::End) {
         return Ok((None, left));
     }
-    let Some(after) = eat(terminals, Key::Else) else {
-        return Err(ReadFault::Refused {
-            left: terminals.len(),
-        });
-    };
+    let after = expect(terminals, Key::Else)?;
     let (value, rest) = inner(nest, after)?;
-    let Some(left) = eat(rest, Key::End) else {
-        return Err(ReadFault::Refused { left: rest.len() });
-    };
-    Ok((Some(Boxed::new(nest.alloc, value)?), left))
+    let (value, left) = beside(value, expect(rest, Key::End))?;
+    Ok((Some(value), left))
 }

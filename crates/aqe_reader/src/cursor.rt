@@ -1,8 +1,10 @@
 //! Steps over terminals.
 
-ghost use Rattle.std.specs.Prelude.{◌≡◌, ◌∷◌, [], MatchOption};
+ghost use Rattle.std.specs.Prelude.{◌≡◌, ◌∷◌, [], MatchOption, MatchResult};
 ghost use Rattle.aqe_trees.specs.declared.terminal.Terminal;
+ghost use Rattle.aqe_reader.specs.Reading.{IsRefusal};
 
+use crate::ReadFault;
 use aqe_trees::{Key, Terminal};
 use aqe_values::Text;
 
@@ -25,6 +27,18 @@ pub fn eat(terminals: &[Terminal], wanted: Key) -> Option<&[Terminal]>
     match next(terminals) {
         Some((Terminal::Fixed(key), rest)) if *key == wanted => Some(rest),
         _ => None,
+    }
+}
+
+/// What stands behind the wanted word or symbol, with which alone a sentence goes on here.
+pub fn expect(terminals: &[Terminal], wanted: Key) -> Result<&[Terminal], ReadFault>
+    ensures { MatchResult result
+        (λ rest. terminals.now ≡ Terminal.Fixed wanted ∷ rest.now)
+        (λ e. IsRefusal e → (us : _) → terminals.now ≡ Terminal.Fixed wanted ∷ us → ⊥) }
+{
+    match eat(terminals, wanted) {
+        Some(rest) => Ok(rest),
+        None => Err(ReadFault::at(terminals)),
     }
 }
 

@@ -3,6 +3,7 @@
 ghost use Rattle.std.specs.Prelude.{◌≡◌};
 ghost use Rattle.aqe_reader.specs.declared.fault.ReadFault.TheVariants.{Memory};
 
+use aqe_trees::Terminal;
 use std::alloc::{AllocError, AllocFailed};
 
 /// Why terminals were not read.
@@ -10,11 +11,27 @@ use std::alloc::{AllocError, AllocFailed};
 pub enum ReadFault {
     /// The terminals begin with no sentence of the rule.
     Refused {
-        /// How many terminals were left where reading stopped, for a message.
+        /// How many terminals were left at the first with which no sentence goes on, for a message.
         left: usize,
     },
     /// Memory ran out.
     Memory,
+}
+
+impl ReadFault {
+    /// No sentence goes on with the first of these terminals, or they are wanting.
+    pub fn at(terminals: &[Terminal]) -> ReadFault {
+        ReadFault::Refused {
+            left: terminals.len(),
+        }
+    }
+
+    /// No sentence goes on with the terminal directly before these.
+    pub fn before(terminals: &[Terminal]) -> ReadFault {
+        ReadFault::Refused {
+            left: terminals.len() + 1,
+        }
+    }
 }
 
 impl From<AllocError> for ReadFault {

@@ -9,20 +9,20 @@ use aqe_trees::{OrTree, Terminal};
 use chains::or;
 use list::list;
 use nest::Nest;
-use sqlite_items::Items;
+use sqlite_items::{Boxed, Items};
 use std::alloc::Global;
 
+mod boxes;
 mod case;
 mod chains;
 pub mod cursor;
 mod fault;
 mod list;
 mod nest;
+pub mod pieces;
 mod predicate;
 mod primary;
 mod runs;
-#[cfg(test)]
-mod tests;
 mod words;
 
 pub use fault::ReadFault;
@@ -36,11 +36,24 @@ pub fn expression<'a>(
         (λ x. Read IsOr 14 terminals.now x.0 x.1.now)
         (λ e. IsRefusal e → Refuses IsOr 14 terminals.now) }
 {
+    let (tree, rest) = boxed_expression(alloc, terminals)?;
+    Ok((tree.into_inner(), rest))
+}
+
+/// The same, with the tree in a box.
+pub fn boxed_expression<'a>(
+    alloc: Global,
+    terminals: &'a [Terminal],
+) -> Result<(Boxed<OrTree>, &'a [Terminal]), ReadFault>
+    ensures { MatchResult result
+        (λ x. Read IsOr 14 terminals.now x.0 x.1.now)
+        (λ e. IsRefusal e → Refuses IsOr 14 terminals.now) }
+{
     let read = |within|
         ensures { MatchResult result
             (λ x. Read IsOr 14 within.now x.0 x.1.now)
             (λ e. IsRefusal e → Refuses IsOr 14 within.now) }
-    { expression(alloc, within) };
+    { boxed_expression(alloc, within) };
     let nest = Nest {
         alloc,
         room: terminals.len(),
@@ -63,7 +76,7 @@ pub fn expressions(
         ensures { MatchResult result
             (λ x. Read IsOr 14 within.now x.0 x.1.now)
             (λ e. IsRefusal e → Refuses IsOr 14 within.now) }
-    { expression(alloc, within) };
+    { boxed_expression(alloc, within) };
     let nest = Nest { alloc, room, read };
     list(&nest, terminals)
 }

@@ -8,8 +8,9 @@ ghost use Rattle.aqe_reader.specs.Nesting.{Nests};
 use crate::ReadFault;
 use crate::cursor::eat;
 use crate::nest::{Nest, inner};
+use crate::pieces::more;
 use aqe_trees::{Key, OrTree, Terminal};
-use sqlite_items::Items;
+use sqlite_items::{Boxed, Items};
 
 /// `or {, or}`, read by a loop, however long it is.
 pub(crate) fn list<'a, F>(
@@ -17,20 +18,16 @@ pub(crate) fn list<'a, F>(
     terminals: &'a [Terminal],
 ) -> Result<(Items<OrTree>, &'a [Terminal]), ReadFault>
 where
-    F: Fn(&'a [Terminal]) -> Result<(OrTree, &'a [Terminal]), ReadFault>,
+    F: Fn(&'a [Terminal]) -> Result<(Boxed<OrTree>, &'a [Terminal]), ReadFault>,
     requires nests { Nests F.Fn nest.now.read nest.now.room }
     requires room { length terminals.now < nest.now.room }
     ensures { MatchResult result
         (λ x. Read IsList 9 terminals.now x.0 x.1.now)
         (λ e. IsRefusal e → Refuses IsList 9 terminals.now) }
 {
-    let (first, mut rest) = inner(nest, terminals)?;
-    let mut items = Items::new(nest.alloc);
-    items.push(first)?;
+    let (mut items, mut rest) = more(Items::new(nest.alloc), inner(nest, terminals))?;
     'more: while let Some(after) = eat(rest, Key::Comma) {
-        let (item, left) = inner(nest, after)?;
-        items.push(item)?;
-        rest = left;
+        (items, rest) = more(items, inner(nest, after))?;
     }
     Ok((items, rest))
 }

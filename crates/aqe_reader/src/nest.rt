@@ -7,6 +7,7 @@ ghost use Rattle.aqe_reader.specs.Nesting.{Nests};
 
 use crate::ReadFault;
 use aqe_trees::{OrTree, Terminal};
+use sqlite_items::Boxed;
 use std::alloc::Global;
 
 /// What each rule is given: memory, and a reader of the expressions that stand further in.
@@ -22,9 +23,9 @@ pub(crate) struct Nest<F> {
 pub(crate) fn inner<'a, F>(
     nest: &Nest<F>,
     terminals: &'a [Terminal],
-) -> Result<(OrTree, &'a [Terminal]), ReadFault>
+) -> Result<(Boxed<OrTree>, &'a [Terminal]), ReadFault>
 where
-    F: Fn(&'a [Terminal]) -> Result<(OrTree, &'a [Terminal]), ReadFault>,
+    F: Fn(&'a [Terminal]) -> Result<(Boxed<OrTree>, &'a [Terminal]), ReadFault>,
     requires nests { Nests F.Fn nest.now.read nest.now.room }
     requires room { length terminals.now < nest.now.room }
     ensures { MatchResult result

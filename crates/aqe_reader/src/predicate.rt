@@ -9,20 +9,24 @@ ghost use Rattle.aqe_reader.specs.Nesting.{Nests};
 ghost use Rattle.aqe_reader.specs.Steps.{told, Told};
 
 use crate::ReadFault;
+use crate::boxes::{between_of, like_of, one_of_list, predicate_of};
 use crate::chains::comparison;
-use crate::cursor::eat;
+use crate::cursor::{eat, expect};
 use crate::list::list;
 use crate::nest::Nest;
+use crate::pieces::beside;
 use crate::words::truth_at;
 use aqe_trees::{Key, OrTree, PredicateTree, Terminal, Test};
+use sqlite_items::Boxed;
+use std::alloc::Global;
 
 /// `comparison [test]`
 pub(crate) fn predicate<'a, F>(
     nest: &Nest<F>,
     terminals: &'a [Terminal],
-) -> Result<(PredicateTree, &'a [Terminal]), ReadFault>
+) -> Result<(Boxed<PredicateTree>, &'a [Terminal]), ReadFault>
 where
-    F: Fn(&'a [Terminal]) -> Result<(OrTree, &'a [Terminal]), ReadFault>,
+    F: Fn(&'a [Terminal]) -> Result<(Boxed<OrTree>, &'a [Terminal]), ReadFault>,
     requires nests { Nests F.Fn nest.now.read nest.now.room }
     requires room { length terminals.now ≤ nest.now.room }
     ensures { MatchResult result
@@ -30,8 +34,8 @@ where
         (λ e. IsRefusal e → Refuses IsPredicate 16 terminals.now) }
 {
     let (value, rest) = comparison(nest, terminals)?;
-    let (test, left) = test(nest, rest)?;
-    Ok((PredicateTree::new(value, test), left))
+    let (value, (test, left)) = beside(value, test(nest, rest))?;
+    Ok((predicate_of(nest.alloc, value, test)?, left))
 }
 
 /// Whether NOT comes first, and what stands behind it.
@@ -48,9 +52,9 @@ fn negation(terminals: &[Terminal]) -> (bool, &[Terminal])
 fn test<'a, F>(
     nest: &Nest<F>,
     terminals: &'a [Terminal],
-) -> Result<(Test, &'a [Terminal]), ReadFault>
+) -> Result<(Boxed<Test>, &'a [Terminal]), ReadFault>
 where
-    F: Fn(&'a [Terminal]) -> Result<(OrTree, &'a [Terminal]), ReadFault>,
+    F: Fn(&'a [Terminal]) -> Result<(Boxed<OrTree>, &'a [Terminal]), ReadFault>,
     requires nests { Nests F.Fn nest.now.read nest.now.room }
     requires room { length terminals.now ≤ nest.now.room }
     ensures { MatchResult result
@@ -67,9 +71,12 @@ where
     if let Some(after) = eat(rest, Key::Like) {
         return like(nest, negated, after);
     }
+    if negated {
+        return Err(ReadFault::at(rest));
+    }
     match eat(terminals, Key::Is) {
-        Some(after) => is(after),
-        None => Ok((Test::Plain, terminals)),
+        Some(after) => is(nest.alloc, after),
+        None => Ok((Boxed::new(nest.alloc, Test::Plain)?, terminals)),
     }
 }
 
@@ -78,9 +85,9 @@ fn between<'a, F>(
     nest: &Nest<F>,
     negated: bool,
     terminals: &'a [Terminal],
-) -> Result<(Test, &'a [Terminal]), ReadFault>
+) -> Result<(Boxed<Test>, &'a [Terminal]), ReadFault>
 where
-    F: Fn(&'a [Terminal]) -> Result<(OrTree, &'a [Terminal]), ReadFault>,
+    F: Fn(&'a [Terminal]) -> Result<(Boxed<OrTree>, &'a [Terminal]), ReadFault>,
     requires nests { Nests F.Fn nest.now.read nest.now.room }
     requires room { length terminals.now ≤ nest.now.room }
     ensures { MatchResult result
@@ -88,11 +95,9 @@ where
         (λ e. IsRefusal e → Refuses (λ t ts us. IsTest t (told negated (Fixed k.Between ∷ ts)) us) 16 terminals.now) }
 {
     let (low, rest) = comparison(nest, terminals)?;
-    let Some(after) = eat(rest, Key::And) else {
-        return Err(ReadFault::Refused { left: rest.len() });
-    };
-    let (high, left) = comparison(nest, after)?;
-    Ok((Test::between(negated, low, high), left))
+    let (low, after) = beside(low, expect(rest, Key::And))?;
+    let (low, (high, left)) = beside(low, comparison(nest, after))?;
+    Ok((between_of(nest.alloc, negated, low, high)?, left))
 }
 
 /// `( or {, or} )`, behind IN.
@@ -100,25 +105,19 @@ fn one_of<'a, F>(
     nest: &Nest<F>,
     negated: bool,
     terminals: &'a [Terminal],
-) -> Result<(Test, &'a [Terminal]), ReadFault>
+) -> Result<(Boxed<Test>, &'a [Terminal]), ReadFault>
 where
-    F: Fn(&'a [Terminal]) -> Result<(OrTree, &'a [Terminal]), ReadFault>,
+    F: Fn(&'a [Terminal]) -> Result<(Boxed<OrTree>, &'a [Terminal]), ReadFault>,
     requires nests { Nests F.Fn nest.now.read nest.now.room }
     requires room { length terminals.now ≤ nest.now.room }
     ensures { MatchResult result
         (λ x. Read (λ t ts us. IsTest t (told negated (Fixed k.In ∷ ts)) us) 16 terminals.now x.0 x.1.now)
         (λ e. IsRefusal e → Refuses (λ t ts us. IsTest t (told negated (Fixed k.In ∷ ts)) us) 16 terminals.now) }
 {
-    let Some(inside) = eat(terminals, Key::Open) else {
-        return Err(ReadFault::Refused {
-            left: terminals.len(),
-        });
-    };
+    let inside = expect(terminals, Key::Open)?;
     let (items, rest) = list(nest, inside)?;
-    let Some(left) = eat(rest, Key::Close) else {
-        return Err(ReadFault::Refused { left: rest.len() });
-    };
-    Ok((Test::one_of(negated, items), left))
+    let (items, left) = beside(items, expect(rest, Key::Close))?;
+    Ok((one_of_list(nest.alloc, negated, items)?, left))
 }
 
 /// The pattern, behind LIKE.
@@ -126,9 +125,9 @@ fn like<'a, F>(
     nest: &Nest<F>,
     negated: bool,
     terminals: &'a [Terminal],
-) -> Result<(Test, &'a [Terminal]), ReadFault>
+) -> Result<(Boxed<Test>, &'a [Terminal]), ReadFault>
 where
-    F: Fn(&'a [Terminal]) -> Result<(OrTree, &'a [Terminal]), ReadFault>,
+    F: Fn(&'a [Terminal]) -> Result<(Boxed<OrTree>, &'a [Terminal]), ReadFault>,
     requires nests { Nests F.Fn nest.now.read nest.now.room }
     requires room { length terminals.now ≤ nest.now.room }
     ensures { MatchResult result
@@ -136,18 +135,18 @@ where
         (λ e. IsRefusal e → Refuses (λ t ts us. IsTest t (told negated (Fixed k.Like ∷ ts)) us) 16 terminals.now) }
 {
     let (pattern, left) = comparison(nest, terminals)?;
-    Ok((Test::like(negated, pattern), left))
+    Ok((like_of(nest.alloc, negated, pattern)?, left))
 }
 
 /// `[NOT] (NULL | TRUE | FALSE)`, behind IS.
-fn is(terminals: &[Terminal]) -> Result<(Test, &[Terminal]), ReadFault>
+fn is(alloc: Global, terminals: &[Terminal]) -> Result<(Boxed<Test>, &[Terminal]), ReadFault>
     ensures { MatchResult result
         (λ x. Read (λ t ts us. IsTest t (Fixed k.Is ∷ ts) us) 16 terminals.now x.0 x.1.now)
         (λ e. IsRefusal e → Refuses (λ t ts us. IsTest t (Fixed k.Is ∷ ts) us) 16 terminals.now) }
 {
     let (negated, rest) = negation(terminals);
     match truth_at(rest) {
-        Some((truth, left)) => Ok((Test::Is { negated, truth }, left)),
-        None => Err(ReadFault::Refused { left: rest.len() }),
+        Some((truth, left)) => Ok((Boxed::new(alloc, Test::Is { negated, truth })?, left)),
+        None => Err(ReadFault::at(rest)),
     }
 }

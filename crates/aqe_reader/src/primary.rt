@@ -1,21 +1,24 @@
 //! Operands: constants, names, calls, and what stands in parentheses.
 
-ghost use Rattle.std.specs.Prelude.{◌≡◌, ◌∷◌, ◌<◌, ◌≤◌, length, IfOk, MatchResult, MatchOption, Some};
+ghost use Rattle.std.specs.Prelude.{◌≡◌, ◌∷◌, ◌<◌, ◌≤◌, length, true, IfOk, MatchResult};
 ghost use Rattle.aqe_trees.specs.declared.terminal.Key.TheVariants as k;
 ghost use Rattle.aqe_trees.specs.declared.terminal.Terminal.TheVariants.{Fixed, Name, Number};
 ghost use Rattle.aqe_trees.specs.Expressions.{IsOr, IsPrimary};
-ghost use Rattle.aqe_trees.specs.Words.{type_of};
-ghost use Rattle.aqe_reader.specs.Reading.{Read, Part, Refuses, IsRefusal};
+ghost use Rattle.aqe_trees.specs.Words.{is_word, count_word};
+ghost use Rattle.aqe_reader.specs.Reading.{Read, Part, Refuses, Never, IsRefusal};
 ghost use Rattle.aqe_reader.specs.Nesting.{Nests};
+ghost use Rattle.aqe_reader.specs.Steps.{IsAsType};
 
 use crate::ReadFault;
 use crate::case::case;
-use crate::cursor::{eat, name, next};
+use crate::cursor::{eat, expect, name, next};
 use crate::list::list;
 use crate::nest::{Nest, inner};
-use crate::words::{all_at, type_at};
+use crate::pieces::beside;
+use crate::words::{star_at, type_at};
 use aqe_trees::{Key, OrTree, PrimaryTree, Terminal};
 use aqe_values::{Memory, SqlType, Text};
+use sqlite_items::Boxed;
 use std::alloc::Global;
 
 /// A copy of the text.
@@ -25,13 +28,20 @@ fn copied(alloc: Global, text: &Text) -> Result<Text, Memory>
     Text::copy_of(alloc, text.as_str())
 }
 
+/// The same, with the fault of a reader.
+fn own(alloc: Global, text: &Text) -> Result<Text, ReadFault>
+    ensures { MatchResult result (λ t. t ≡ text.now) (λ e. IsRefusal e → ⊥) }
+{
+    Ok(copied(alloc, text)?)
+}
+
 /// An operand without an operator outside of parentheses.
 pub(crate) fn primary<'a, F>(
     nest: &Nest<F>,
     terminals: &'a [Terminal],
 ) -> Result<(PrimaryTree, &'a [Terminal]), ReadFault>
 where
-    F: Fn(&'a [Terminal]) -> Result<(OrTree, &'a [Terminal]), ReadFault>,
+    F: Fn(&'a [Terminal]) -> Result<(Boxed<OrTree>, &'a [Terminal]), ReadFault>,
     requires nests { Nests F.Fn nest.now.read nest.now.room }
     requires room { length terminals.now ≤ nest.now.room }
     ensures { MatchResult result
@@ -39,16 +49,14 @@ where
         (λ e. IsRefusal e → Refuses IsPrimary 20 terminals.now) }
 {
     let Some((first, rest)) = next(terminals) else {
-        return Err(ReadFault::Refused { left: 0 });
+        return Err(ReadFault::at(terminals));
     };
     match first {
         Terminal::Fixed(key) => keyed(nest, *key, rest),
         Terminal::Name { text, quoted } => named(nest, text, *quoted, rest),
         Terminal::Literal(text) => Ok((PrimaryTree::Literal(copied(nest.alloc, text)?), rest)),
         Terminal::Number { value, long } => number(*value, *long, rest),
-        Terminal::Mixed => Err(ReadFault::Refused {
-            left: terminals.len(),
-        }),
+        Terminal::Mixed => Err(ReadFault::at(terminals)),
     }
 }
 
@@ -63,9 +71,7 @@ fn number(
         (λ e. IsRefusal e → Refuses (λ t ts us. IsPrimary t (Number value long ∷ ts) us) 20 terminals.now) }
 {
     if value > 9223372036854775807 {
-        return Err(ReadFault::Refused {
-            left: terminals.len(),
-        });
+        return Err(ReadFault::before(terminals));
     }
     let tree = PrimaryTree::Number {
         negative: false,
@@ -82,7 +88,7 @@ fn keyed<'a, F>(
     terminals: &'a [Terminal],
 ) -> Result<(PrimaryTree, &'a [Terminal]), ReadFault>
 where
-    F: Fn(&'a [Terminal]) -> Result<(OrTree, &'a [Terminal]), ReadFault>,
+    F: Fn(&'a [Terminal]) -> Result<(Boxed<OrTree>, &'a [Terminal]), ReadFault>,
     requires nests { Nests F.Fn nest.now.read nest.now.room }
     requires room { length terminals.now < nest.now.room }
     ensures { MatchResult result
@@ -97,9 +103,7 @@ where
         Key::Open => paren(nest, terminals),
         Key::Cast => cast(nest, terminals),
         Key::Case => case(nest, terminals),
-        _ => Err(ReadFault::Refused {
-            left: terminals.len(),
-        }),
+        _ => Err(ReadFault::before(terminals)),
     }
 }
 
@@ -118,9 +122,7 @@ fn negative(terminals: &[Terminal]) -> Result<(PrimaryTree, &[Terminal]), ReadFa
             };
             Ok((tree, left))
         }
-        _ => Err(ReadFault::Refused {
-            left: terminals.len(),
-        }),
+        _ => Err(ReadFault::at(terminals)),
     }
 }
 
@@ -130,7 +132,7 @@ fn paren<'a, F>(
     terminals: &'a [Terminal],
 ) -> Result<(PrimaryTree, &'a [Terminal]), ReadFault>
 where
-    F: Fn(&'a [Terminal]) -> Result<(OrTree, &'a [Terminal]), ReadFault>,
+    F: Fn(&'a [Terminal]) -> Result<(Boxed<OrTree>, &'a [Terminal]), ReadFault>,
     requires nests { Nests F.Fn nest.now.read nest.now.room }
     requires room { length terminals.now < nest.now.room }
     ensures { MatchResult result
@@ -138,22 +140,22 @@ where
         (λ e. IsRefusal e → Refuses (λ t ts us. IsPrimary t (Fixed k.Open ∷ ts) us) 20 terminals.now) }
 {
     let (value, rest) = inner(nest, terminals)?;
-    let Some(left) = eat(rest, Key::Close) else {
-        return Err(ReadFault::Refused { left: rest.len() });
-    };
-    Ok((PrimaryTree::paren(nest.alloc, value)?, left))
+    let (value, left) = beside(value, expect(rest, Key::Close))?;
+    Ok((PrimaryTree::Paren(value), left))
 }
 
 /// `AS type )`
-fn as_type(terminals: &[Terminal]) -> Option<(SqlType, &[Terminal])>
-    ensures { MatchOption result
-        ((kind : _) (t : _) (us : _) → terminals.now ≡ Fixed k.As ∷ t ∷ Fixed k.Close ∷ us → type_of t ≡ Some kind → ⊥)
-        (λ x. (t : _) × (terminals.now ≡ Fixed k.As ∷ t ∷ Fixed k.Close ∷ x.1.now) × (type_of t ≡ Some x.0)) }
+fn as_type(terminals: &[Terminal]) -> Result<(SqlType, &[Terminal]), ReadFault>
+    ensures { MatchResult result
+        (λ x. IsAsType x.0 terminals.now x.1.now)
+        (λ e. IsRefusal e → Never IsAsType terminals.now) }
 {
-    let after = eat(terminals, Key::As)?;
-    let (kind, rest) = type_at(after)?;
-    let left = eat(rest, Key::Close)?;
-    Some((kind, left))
+    let after = expect(terminals, Key::As)?;
+    let Some((kind, rest)) = type_at(after) else {
+        return Err(ReadFault::at(after));
+    };
+    let left = expect(rest, Key::Close)?;
+    Ok((kind, left))
 }
 
 /// `( or AS type )`, behind CAST.
@@ -162,23 +164,17 @@ fn cast<'a, F>(
     terminals: &'a [Terminal],
 ) -> Result<(PrimaryTree, &'a [Terminal]), ReadFault>
 where
-    F: Fn(&'a [Terminal]) -> Result<(OrTree, &'a [Terminal]), ReadFault>,
+    F: Fn(&'a [Terminal]) -> Result<(Boxed<OrTree>, &'a [Terminal]), ReadFault>,
     requires nests { Nests F.Fn nest.now.read nest.now.room }
     requires room { length terminals.now < nest.now.room }
     ensures { MatchResult result
         (λ x. Part (λ t ts us. IsPrimary t (Fixed k.Cast ∷ ts) us) 20 terminals.now x.0 x.1.now)
         (λ e. IsRefusal e → Refuses (λ t ts us. IsPrimary t (Fixed k.Cast ∷ ts) us) 20 terminals.now) }
 {
-    let Some(inside) = eat(terminals, Key::Open) else {
-        return Err(ReadFault::Refused {
-            left: terminals.len(),
-        });
-    };
+    let inside = expect(terminals, Key::Open)?;
     let (value, rest) = inner(nest, inside)?;
-    let Some((kind, left)) = as_type(rest) else {
-        return Err(ReadFault::Refused { left: rest.len() });
-    };
-    Ok((PrimaryTree::cast(nest.alloc, value, kind)?, left))
+    let (value, (kind, left)) = beside(value, as_type(rest))?;
+    Ok((PrimaryTree::Cast { value, kind }, left))
 }
 
 /// What begins with a name.
@@ -189,7 +185,7 @@ fn named<'a, F>(
     terminals: &'a [Terminal],
 ) -> Result<(PrimaryTree, &'a [Terminal]), ReadFault>
 where
-    F: Fn(&'a [Terminal]) -> Result<(OrTree, &'a [Terminal]), ReadFault>,
+    F: Fn(&'a [Terminal]) -> Result<(Boxed<OrTree>, &'a [Terminal]), ReadFault>,
     requires nests { Nests F.Fn nest.now.read nest.now.room }
     requires room { length terminals.now < nest.now.room }
     ensures { MatchResult result
@@ -217,13 +213,26 @@ fn dotted<'a>(
         (λ e. IsRefusal e → Refuses (λ t ts us. IsPrimary t (Name text.now quoted ∷ Fixed k.Dot ∷ ts) us) 20 terminals.now) }
 {
     let Some((column, _, left)) = name(terminals) else {
-        return Err(ReadFault::Refused {
-            left: terminals.len(),
-        });
+        return Err(ReadFault::at(terminals));
     };
     let table = copied(alloc, text)?;
     let name = copied(alloc, column)?;
     Ok((PrimaryTree::TableColumn { table, name }, left))
+}
+
+/// `)`, behind `count ( *`.
+fn counted<'a>(
+    text: &Text,
+    quoted: bool,
+    terminals: &'a [Terminal],
+) -> Result<(PrimaryTree, &'a [Terminal]), ReadFault>
+    requires { is_word count_word text.now ≡ true }
+    ensures { MatchResult result
+        (λ x. Part (λ t ts us. IsPrimary t (Name text.now quoted ∷ Fixed k.Open ∷ Fixed k.Star ∷ ts) us) 20 terminals.now x.0 x.1.now)
+        (λ e. IsRefusal e → Refuses (λ t ts us. IsPrimary t (Name text.now quoted ∷ Fixed k.Open ∷ Fixed k.Star ∷ ts) us) 20 terminals.now) }
+{
+    let left = expect(terminals, Key::Close)?;
+    Ok((PrimaryTree::CountAll, left))
 }
 
 /// `* )` or `or {, or} )`, behind the name of a function and `(`.
@@ -234,20 +243,18 @@ fn called<'a, F>(
     terminals: &'a [Terminal],
 ) -> Result<(PrimaryTree, &'a [Terminal]), ReadFault>
 where
-    F: Fn(&'a [Terminal]) -> Result<(OrTree, &'a [Terminal]), ReadFault>,
+    F: Fn(&'a [Terminal]) -> Result<(Boxed<OrTree>, &'a [Terminal]), ReadFault>,
     requires nests { Nests F.Fn nest.now.read nest.now.room }
     requires room { length terminals.now < nest.now.room }
     ensures { MatchResult result
         (λ x. Part (λ t ts us. IsPrimary t (Name text.now quoted ∷ Fixed k.Open ∷ ts) us) 20 terminals.now x.0 x.1.now)
         (λ e. IsRefusal e → Refuses (λ t ts us. IsPrimary t (Name text.now quoted ∷ Fixed k.Open ∷ ts) us) 20 terminals.now) }
 {
-    if let Some(left) = all_at(text, terminals) {
-        return Ok((PrimaryTree::CountAll, left));
+    if let Some(after) = star_at(text, terminals) {
+        return counted(text, quoted, after);
     }
     let (arguments, rest) = list(nest, terminals)?;
-    let Some(left) = eat(rest, Key::Close) else {
-        return Err(ReadFault::Refused { left: rest.len() });
-    };
-    let name = copied(nest.alloc, text)?;
+    let (arguments, left) = beside(arguments, expect(rest, Key::Close))?;
+    let (arguments, name) = beside(arguments, own(nest.alloc, text))?;
     Ok((PrimaryTree::call(name, arguments), left))
 }

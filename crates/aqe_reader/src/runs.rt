@@ -10,13 +10,15 @@ ghost use Rattle.aqe_reader.specs.Nesting.{Nests};
 ghost use Rattle.aqe_reader.specs.Steps.{NotsLeft, SignsLeft};
 
 use crate::ReadFault;
+use crate::boxes::not_of;
 use crate::cursor::eat;
 use crate::nest::Nest;
+use crate::pieces::beside;
 use crate::predicate::predicate;
 use crate::primary::primary;
 use crate::words::sign_at;
 use aqe_trees::{Key, NotTree, OrTree, Sign, SignTree, Terminal};
-use sqlite_items::Items;
+use sqlite_items::{Boxed, Items};
 use std::alloc::Global;
 
 /// How many NOTs come first, and what stands behind them.
@@ -37,9 +39,9 @@ fn nots(terminals: &[Terminal]) -> (u64, &[Terminal])
 pub(crate) fn not<'a, F>(
     nest: &Nest<F>,
     terminals: &'a [Terminal],
-) -> Result<(NotTree, &'a [Terminal]), ReadFault>
+) -> Result<(Boxed<NotTree>, &'a [Terminal]), ReadFault>
 where
-    F: Fn(&'a [Terminal]) -> Result<(OrTree, &'a [Terminal]), ReadFault>,
+    F: Fn(&'a [Terminal]) -> Result<(Boxed<OrTree>, &'a [Terminal]), ReadFault>,
     requires nests { Nests F.Fn nest.now.read nest.now.room }
     requires room { length terminals.now ≤ nest.now.room }
     ensures { MatchResult result
@@ -48,7 +50,7 @@ where
 {
     let (count, rest) = nots(terminals);
     let (operand, left) = predicate(nest, rest)?;
-    Ok((NotTree::new(count, operand), left))
+    Ok((not_of(nest.alloc, count, operand)?, left))
 }
 
 /// The signs that come first, and what stands behind them.
@@ -72,7 +74,7 @@ pub(crate) fn sign<'a, F>(
     terminals: &'a [Terminal],
 ) -> Result<(SignTree, &'a [Terminal]), ReadFault>
 where
-    F: Fn(&'a [Terminal]) -> Result<(OrTree, &'a [Terminal]), ReadFault>,
+    F: Fn(&'a [Terminal]) -> Result<(Boxed<OrTree>, &'a [Terminal]), ReadFault>,
     requires nests { Nests F.Fn nest.now.read nest.now.room }
     requires room { length terminals.now ≤ nest.now.room }
     ensures { MatchResult result
@@ -80,6 +82,6 @@ where
         (λ e. IsRefusal e → Refuses IsSign 20 terminals.now) }
 {
     let (signs, rest) = signs(nest.alloc, terminals)?;
-    let (operand, left) = primary(nest, rest)?;
+    let (signs, (operand, left)) = beside(signs, primary(nest, rest))?;
     Ok((SignTree::new(signs, operand), left))
 }

@@ -161,14 +161,14 @@ pub(crate) fn type_at(terminals: &[Terminal]) -> Option<(SqlType, &[Terminal])>
     Some((type_of(first)?, rest))
 }
 
-/// What stands behind `* )`, where the function is `count`.
-pub(crate) fn all_at<'a>(name: &Text, terminals: &'a [Terminal]) -> Option<&'a [Terminal]>
+/// What stands behind `*`, where the function is `count`.
+pub(crate) fn star_at<'a>(name: &Text, terminals: &'a [Terminal]) -> Option<&'a [Terminal]>
     ensures { MatchOption result
-        ((us : _) → is_word count_word name.now ≡ true → terminals.now ≡ Fixed k.Star ∷ Fixed k.Close ∷ us → ⊥)
-        (λ rest. (is_word count_word name.now ≡ true) × (terminals.now ≡ Fixed k.Star ∷ Fixed k.Close ∷ rest.now)) }
+        ((us : _) → is_word count_word name.now ≡ true → terminals.now ≡ Fixed k.Star ∷ us → ⊥)
+        (λ rest. (is_word count_word name.now ≡ true) × (terminals.now ≡ Fixed k.Star ∷ rest.now)) }
 {
     if !is_word("count", name.as_str()) {
         return None;
     }
-    eat(eat(terminals, Key::Star)?, Key::Close)
+    eat(terminals, Key::Star)
 }

@@ -26,10 +26,10 @@ all_arms tested gives [] = refl
 all_arms tested gives (arm ∷ arms) =
     ap (λ p. made.More (tested_as tested arm.0) (converted gives arm.1) p) (all_arms tested gives arms) ∙ is_pair (tested_as tested arm.0) (converted gives arm.1) (case_pairs tested gives arms)
 
-pub arms_push : (tested : Option SqlType) (gives : SqlType) (xs : List (Typed × Typed)) (t g : Typed) (rest : pairs.CasePairs) →
-    arms_behind tested gives (xs ++ (t, g) ∷ []) rest ≡ arms_behind tested gives xs (made.More (tested_as tested t) (converted gives g) rest)
-arms_push tested gives [] t g rest = refl
-arms_push tested gives (y ∷ xs) t g rest = ap (λ p. made.More (tested_as tested y.0) (converted gives y.1) p) (arms_push tested gives xs t g rest)
+pub arms_push : (tested : Option SqlType) (gives : SqlType) (xs : List (Typed × Typed)) (arm : Typed × Typed) (rest : pairs.CasePairs) →
+    arms_behind tested gives (xs ++ arm ∷ []) rest ≡ arms_behind tested gives xs (made.More (tested_as tested arm.0) (converted gives arm.1) rest)
+arms_push tested gives [] arm rest = refl
+arms_push tested gives (y ∷ xs) arm rest = ap (λ p. made.More (tested_as tested y.0) (converted gives y.1) p) (arms_push tested gives xs arm rest)
 
 pub made_case : (arms : List (Typed × Typed)) (otherwise : Option Typed) (gives : SqlType) (p : pairs.CasePairs) (o e : Expr) →
     list_all (λ arm. is_truth arm.0.kind) arms ≡ true → common_of_gives arms otherwise ≡ Some gives → p ≡ case_pairs None gives arms → o ≡ otherwise_of gives otherwise → e ≡ Case p o →

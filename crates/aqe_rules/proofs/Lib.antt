@@ -1,17 +1,4 @@
-pub mod Outcomes
 pub mod Gives
-pub mod OperationsBelow
-pub mod Grouping
-pub mod Bounds
-pub mod Trees
-pub mod Below
-pub mod Readings
-pub mod Sources
-pub mod Selects
-pub mod Plans
-pub mod Unions
-pub mod Queries
-pub mod QueryTrees
 pub mod Steps
 pub mod Comparing
 pub mod KnownAnswers

@@ -14,7 +14,7 @@ use Rattle.aqe_rules.specs.Readings.{Named, Call}
 use Rattle.aqe_rules.specs.Expressions.{read}
 use Rattle.aqe_rules.specs.Limits.{within_limits}
 use Rattle.aqe_rules.specs.Sources.{Catalog, Item, From, columns_of, over, kept, table_source, query_source, join_all, from_all}
-use Rattle.aqe_rules.specs.Selects.{Output, at, with_aliases, outputs, group_keys, is_grouped, is_empty, calls_of, built, having_condition}
+use Rattle.aqe_rules.specs.Selects.{Output, at, with_aliases, outputs, grouping_keys, is_grouped, is_empty, calls_of, built, having_condition}
 use Rattle.aqe_rules.specs.Plans.{groups_of, filtered_by, fields_of, projected_to, distinct_if, sortings, hidden_columns, keys_of, sorted_by, without_hidden, hidden_output, shown_columns, no_hidden, ordered}
 use Rattle.aqe_rules.specs.Unions.{union_of}
 use Rattle.aqe_rules.specs.QueryForms.{QueryForms}
@@ -54,7 +54,7 @@ sorted_plan s calls sorts =
 abbrev pub select_parts : Bool → List ItemTree → Bool → Option OrTree → List OrTree → Option OrTree → Bool → List Call → From → Outcome Selected
 select_parts distinct list has_from filter group having grouped all from =
     upon (kept filter (with_aliases (columns_of from.items) list []) from.plan) (λ below.
-    upon (group_keys has_from from.items (with_aliases (columns_of from.items) list []) list group) (λ keys.
+    upon (grouping_keys has_from from.items (with_aliases (columns_of from.items) list []) list group) (λ keys.
     upon (outputs (built grouped keys (columns_of from.items)) has_from from.items (at (columns_of from.items) all) 0 list) (λ outputs.
     upon (if_any (option_map (having_condition (built grouped keys (columns_of from.items)) (with_aliases (columns_of from.items) list all)) having)) (λ having.
     Ok (record { below = below; columns = columns_of from.items; is_grouped = grouped; keys = keys; outputs = outputs; having = having; distinct = distinct })))))

@@ -23,7 +23,7 @@ pub record Forms (A : Type 0) : Type 0 where
   -- `count(*)`, and a call with its arguments
   pub count_all : A
   pub call : List ℕ → List A → A
-  pub signed : Sign → A → A
+  pub with_sign : Sign → A → A
   pub product : ProductOp → A → A → A
   pub sum : Sign → A → A → A
   pub compare : CompareOp → A → A → A

@@ -18,4 +18,3 @@ pub mod Unions
 pub mod Analysis
 pub mod Faults
 pub mod Found
-pub mod Laws

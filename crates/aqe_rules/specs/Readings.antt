@@ -147,14 +147,14 @@ abbrev pub call_of : AggFun → Typed → Call
 call_of fun a = record { call = record { fun = fun; arg = a.expr }; kind = gives fun a.kind }
 
 -- the value of a call is at its place among the calls that may stand here, behind the columns; no other call may
-abbrev pub call_value : List ℕ → Call → ℕ → List Call → Outcome Typed
-call_value name call n [] = Err (refused NestedAggregate name)
-call_value name call n (first ∷ rest) =
-    cond (same_call first.call call.call) (Ok (typed (Column n) call.kind)) (call_value name call (n + 1) rest)
+abbrev pub value_of_call : List ℕ → Call → ℕ → List Call → Outcome Typed
+value_of_call name call n [] = Err (refused NestedAggregate name)
+value_of_call name call n (first ∷ rest) =
+    cond (same_call first.call call.call) (Ok (typed (Column n) call.kind)) (value_of_call name call (n + 1) rest)
 
 abbrev pub aggregate_value : List ℕ → AggFun → Place → Typed → Outcome Typed
 aggregate_value name fun place a = provided (takes fun a.kind) mismatch
-    (call_value name (call_of fun a) (length place.columns) place.calls)
+    (value_of_call name (call_of fun a) (length place.columns) place.calls)
 
 -- no aggregate call may stand within an aggregate call
 abbrev pub within_call : Place → Place
@@ -209,7 +209,7 @@ readings = record {
       case_reading (option_map (λ a. a place) operand) (map (λ arm. (arm.0 place, arm.1 place)) arms) (option_map (λ a. a place) otherwise);
   count_all = λ place. aggregate_reading (codes "count") Count place (leaf (Ok counted) ∷ []);
   call = λ name arguments place. call_reading name arguments place (aggregate_named name);
-  signed = λ op a place. on_one (a place) (operation.signed_operation op);
+  with_sign = λ op a place. on_one (a place) (operation.signed_operation op);
   product = λ op a b place. on_two (a place) (b place) (operation.product_operation op);
   sum = λ op a b place. on_two (a place) (b place) (operation.sum_operation op);
   compare = λ op a b place. on_two (a place) (b place) (operation.comparison op);

@@ -130,13 +130,13 @@ at_position true n all = Err (refused BadPosition (written true n))
 at_position false n all = nth (written false n) n all
 
 -- GROUP BY: a number alone is a position in the spread list; another expression takes a column before an alias
-abbrev pub group_key : Bool → List Item → Place → List ItemTree → OrTree → Alone → Outcome Typed
-group_key has_from items place list value (a_number negative n) =
+abbrev pub grouping_key : Bool → List Item → Place → List ItemTree → OrTree → Alone → Outcome Typed
+grouping_key has_from items place list value (a_number negative n) =
     upon (spread has_from items list) (λ all. upon (at_position negative n all) (spread_value (over place.columns)))
-group_key has_from items place list value alone = (read value place).value
+grouping_key has_from items place list value alone = (read value place).value
 
-abbrev pub group_keys : Bool → List Item → Place → List ItemTree → List OrTree → Outcome (List Typed)
-group_keys has_from items place list group = each (map (λ value. group_key has_from items place list value (alone_of value)) group)
+abbrev pub grouping_keys : Bool → List Item → Place → List ItemTree → List OrTree → Outcome (List Typed)
+grouping_keys has_from items place list group = each (map (λ value. grouping_key has_from items place list value (alone_of value)) group)
 
 -- A query is grouped where it has GROUP BY, HAVING, or an aggregate call in its select list or ORDER BY.
 abbrev pub item_has_aggregate : ItemTree → Bool

@@ -21,7 +21,7 @@ times f (suc n) a = f (times f n a)
 
 abbrev pub under_signs : {A : Type 0} → Forms A → List Sign → A → A
 under_signs rule [] a = a
-under_signs rule (sign ∷ signs) a = rule.signed sign (under_signs rule signs a)
+under_signs rule (sign ∷ signs) a = rule.with_sign sign (under_signs rule signs a)
 
 abbrev pub negated_if : {A : Type 0} → Forms A → Bool → A → A
 negated_if rule true a = rule.negation a

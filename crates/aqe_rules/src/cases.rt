@@ -9,6 +9,7 @@ ghost use Rattle.aqe_rules.specs.Faults.{Says};
 use crate::AnalysisFault;
 use crate::operations::{converted, mismatch};
 use crate::typed::{Typed, common_with, is_truth};
+use aqe_boxes::{all_three, both};
 use aqe_expr::{CasePairs, Expr};
 use aqe_values::{Memory, SqlType, Value};
 use std::alloc::Global;
@@ -58,10 +59,7 @@ fn otherwise_of(alloc: Global, kind: SqlType, otherwise: Option<Typed>) -> Resul
     ensures { IfOk result (λ e. e ≡ spec.otherwise_of kind otherwise) }
 {
     match otherwise {
-        Some(otherwise) => {
-            let otherwise = converted(alloc, kind, otherwise)?;
-            Ok(otherwise)
-        }
+        Some(otherwise) => converted(alloc, kind, otherwise),
         None => Ok(Expr::Literal(Value::Null)),
     }
 }
@@ -71,12 +69,28 @@ fn tested_as(alloc: Global, kind: Option<SqlType>, a: Typed) -> Result<Expr, Mem
     ensures { IfOk result (λ e. e ≡ spec.tested_as kind a) }
 {
     match kind {
-        Some(kind) => {
-            let converted = converted(alloc, kind, a)?;
-            Ok(converted)
-        }
+        Some(kind) => converted(alloc, kind, a),
         None => Ok(a.expr),
     }
+}
+
+/// An arm, converted, in front of the chain.
+fn arm_in_front(
+    alloc: Global,
+    tested: Option<SqlType>,
+    gives: SqlType,
+    arm: (Typed, Typed),
+    chain: CasePairs,
+) -> Result<CasePairs, Memory>
+    ensures { IfOk result (λ p. p ≡ CasePairs.More (spec.tested_as tested arm.0) (spec.converted gives arm.1) chain) }
+{
+    let (test, result) = arm;
+    let (test, result, chain) = all_three(
+        tested_as(alloc, tested, test),
+        converted(alloc, gives, result),
+        Ok(chain),
+    )?;
+    CasePairs::more(alloc, test, result, chain)
 }
 
 /// The chain of the arms, each converted.
@@ -91,10 +105,8 @@ fn case_pairs(
 {
     let mut arms = arms;
     let mut chain = CasePairs::End;
-    'arms: while let Some((test, result)) = arms.pop() {
-        let test = tested_as(alloc, tested, test)?;
-        let result = converted(alloc, gives, result)?;
-        chain = CasePairs::more(alloc, test, result, chain)?;
+    'arms: while let Some(arm) = arms.pop() {
+        chain = arm_in_front(alloc, tested, gives, arm, chain)?;
     }
     Ok(chain)
 }
@@ -113,8 +125,10 @@ pub fn case_of(
     }
     match common_of_gives(arms.as_slice(), &otherwise) {
         Some(kind) => {
-            let pairs = case_pairs(alloc, None, kind, arms)?;
-            let otherwise = otherwise_of(alloc, kind, otherwise)?;
+            let (pairs, otherwise) = both(
+                case_pairs(alloc, None, kind, arms),
+                otherwise_of(alloc, kind, otherwise),
+            )?;
             let expr = Expr::case_of(alloc, pairs, otherwise)?;
             Ok(Typed { expr, kind })
         }
@@ -135,9 +149,11 @@ pub fn switch(
     match common_of_tests(a.kind, arms.as_slice()) {
         Some(tested) => match common_of_gives(arms.as_slice(), &otherwise) {
             Some(kind) => {
-                let operand = converted(alloc, tested, a)?;
-                let pairs = case_pairs(alloc, Some(tested), kind, arms)?;
-                let otherwise = otherwise_of(alloc, kind, otherwise)?;
+                let (operand, pairs, otherwise) = all_three(
+                    converted(alloc, tested, a),
+                    case_pairs(alloc, Some(tested), kind, arms),
+                    otherwise_of(alloc, kind, otherwise),
+                )?;
                 let expr = Expr::switch(alloc, operand, pairs, otherwise)?;
                 Ok(Typed { expr, kind })
             }

@@ -56,8 +56,8 @@ fn bears(name: &Text, column: &Named) -> bool
     alike(&column.name, name)
 }
 
-/// Whether the column is one of an item with the name.
-fn is_of(table: &Text, column: &Named) -> bool
+/// Whether the column is one of an item with the name. A column of no item is of none.
+pub fn is_of(table: &Text, column: &Named) -> bool
     ensures { result ≡ spec.is_of table.now column.now }
 {
     match &column.item {

@@ -12,6 +12,7 @@ use crate::typed::{
     Typed, common, common_of_all, common_with, is_number, is_same_kind, is_text, is_truth, wider,
 };
 use aqe_base::AnalysisKind;
+use aqe_boxes::{all_three, both};
 use aqe_expr::{BinaryOp, Expr, Operands, UnaryOp};
 use aqe_trees::{CompareOp, ProductOp, Sign, Truth};
 use aqe_values::{Memory, SqlType, Text, Value};
@@ -42,22 +43,10 @@ fn cast_to(alloc: Global, kind: SqlType, expr: Expr) -> Result<Expr, Memory>
 {
     match kind {
         SqlType::NullType => Ok(Expr::Literal(Value::Null)),
-        SqlType::Boolean => {
-            let cast = Expr::unary(alloc, UnaryOp::CastBoolean, expr)?;
-            Ok(cast)
-        }
-        SqlType::Int => {
-            let cast = Expr::unary(alloc, UnaryOp::CastInt, expr)?;
-            Ok(cast)
-        }
-        SqlType::BigInt => {
-            let cast = Expr::unary(alloc, UnaryOp::CastBigInt, expr)?;
-            Ok(cast)
-        }
-        SqlType::Text => {
-            let cast = Expr::unary(alloc, UnaryOp::CastText, expr)?;
-            Ok(cast)
-        }
+        SqlType::Boolean => Expr::unary(alloc, UnaryOp::CastBoolean, expr),
+        SqlType::Int => Expr::unary(alloc, UnaryOp::CastInt, expr),
+        SqlType::BigInt => Expr::unary(alloc, UnaryOp::CastBigInt, expr),
+        SqlType::Text => Expr::unary(alloc, UnaryOp::CastText, expr),
     }
 }
 
@@ -68,8 +57,7 @@ pub(crate) fn converted(alloc: Global, kind: SqlType, a: Typed) -> Result<Expr, 
     if is_same_kind(a.kind, kind) {
         return Ok(a.expr);
     }
-    let cast = cast_to(alloc, kind, a.expr)?;
-    Ok(cast)
+    cast_to(alloc, kind, a.expr)
 }
 
 /// `CAST (a AS kind)`, from each type to each.
@@ -167,8 +155,7 @@ pub fn comparison(alloc: Global, op: CompareOp, a: Typed, b: Typed) -> Result<Ty
 {
     match common(a.kind, b.kind) {
         Some(kind) => {
-            let left = converted(alloc, kind, a)?;
-            let right = converted(alloc, kind, b)?;
+            let (left, right) = both(converted(alloc, kind, a), converted(alloc, kind, b))?;
             let expr = Expr::binary(alloc, comparing(op), left, right)?;
             Ok(Typed {
                 expr,
@@ -196,9 +183,11 @@ pub fn between(alloc: Global, a: Typed, low: Typed, high: Typed) -> Result<Typed
 {
     match common_of_three(&a, &low, &high) {
         Some(kind) => {
-            let a = converted(alloc, kind, a)?;
-            let low = converted(alloc, kind, low)?;
-            let high = converted(alloc, kind, high)?;
+            let (a, low, high) = all_three(
+                converted(alloc, kind, a),
+                converted(alloc, kind, low),
+                converted(alloc, kind, high),
+            )?;
             let expr = Expr::between(alloc, a, low, high)?;
             Ok(Typed {
                 expr,
@@ -209,6 +198,14 @@ pub fn between(alloc: Global, a: Typed, low: Typed, high: Typed) -> Result<Typed
     }
 }
 
+/// The expression, converted, in front of the chain.
+fn in_front(alloc: Global, kind: SqlType, a: Typed, chain: Operands) -> Result<Operands, Memory>
+    ensures { IfOk result (λ l. l ≡ Operands.More (spec.converted kind a) chain) }
+{
+    let (item, chain) = both(converted(alloc, kind, a), Ok(chain))?;
+    Operands::more(alloc, item, chain)
+}
+
 /// The chain of the expressions, each converted.
 #[tactic(auto, using(crate::proofs::Comparing::behind_push, crate::proofs::Comparing::all_behind))]
 fn operands(alloc: Global, kind: SqlType, all: Vec<Typed>) -> Result<Operands, Memory>
@@ -217,8 +214,7 @@ fn operands(alloc: Global, kind: SqlType, all: Vec<Typed>) -> Result<Operands, M
     let mut all = all;
     let mut chain = Operands::End;
     'all: while let Some(a) = all.pop() {
-        let item = converted(alloc, kind, a)?;
-        chain = Operands::more(alloc, item, chain)?;
+        chain = in_front(alloc, kind, a, chain)?;
     }
     Ok(chain)
 }
@@ -258,8 +254,7 @@ pub fn in_list(alloc: Global, a: Typed, all: Vec<Typed>) -> Result<Typed, Analys
 {
     match common_with_list(&a, all.as_slice()) {
         Some(kind) => {
-            let value = converted(alloc, kind, a)?;
-            let list = operands(alloc, kind, all)?;
+            let (value, list) = both(converted(alloc, kind, a), operands(alloc, kind, all))?;
             let expr = Expr::one_of(alloc, value, list)?;
             Ok(Typed {
                 expr,

@@ -11,12 +11,24 @@ use Rattle.aqe_store.specs.Causes.{Rose}
 abbrev pub IsLonger : Entries → List ℕ → ℕ → Type 0
 IsLonger files path most = IsSomeAnd (content_of files path) (λ content. most < length content)
 
--- no count falls, a failure raises the faults, and a file that is missing the misses
+-- a read that failed raises the count of faults by one at most, and no other answer changes it
+abbrev pub CountsFailedReads : {A : Type 0} → Result A ReadFail → ℕ → ℕ → Type 0
+CountsFailedReads (Err Failed) before now = now ≤ before + 1
+CountsFailedReads result before now = now ≡ before
+
+-- a file that is missing raises the count of misses by one at most, and no other answer changes it
+abbrev pub CountsMissingFiles : {A : Type 0} → Result A ReadFail → ℕ → ℕ → Type 0
+CountsMissingFiles (Err Missing) before now = now ≤ before + 1
+CountsMissingFiles result before now = now ≡ before
+
+-- no count falls, a failure alone raises the faults, and a file that is missing alone the misses
 pub record HasReadCauses {A : Type 0} (faults faults' misses misses' : ℕ) (result : Result A ReadFail) : Type 0 where
   pub faults_stay : faults ≤ faults'
   pub misses_stay : misses ≤ misses'
   pub failed : result ≡ Err Failed → Rose faults faults'
   pub missing : result ≡ Err Missing → Rose misses misses'
+  pub failures : CountsFailedReads result faults faults'
+  pub absences : CountsMissingFiles result misses misses'
 
 -- these bytes came from the open file since then, in any number of pieces
 pub record Came (told told' : Option Entries) (opened opened' : Option Open) (bytes : List ℕ) : Type 0 where

@@ -54,7 +54,15 @@ fn is_plain<R: Files>(rt: &R, path: &str) -> Result<bool, StoreFail> {
     }
 }
 
-/// Adds a name of a folder, if it is that of a plain file. A name that is no text is a failure.
+/// Whether a name is that of a hidden entry, which no table reads.
+fn is_hidden(name: &[u8]) -> bool {
+    name.starts_with(b"_") || name.starts_with(b".")
+}
+
+/// Adds a name of a folder, if it is that of a plain file.
+///
+/// A runtime takes paths that are texts alone, so it cannot be asked what an entry is whose name is no text:
+/// a hidden one is passed over, and any other is a failure, so that no row of a table is lost unseen.
 fn keep_plain<R: Files>(
     alloc: Global,
     rt: &R,
@@ -63,7 +71,11 @@ fn keep_plain<R: Files>(
     names: &mut Names,
 ) -> Result<(), StoreFail> {
     let Ok(name) = std::str::from_utf8(name) else {
-        return Err(StoreFail::Failed);
+        return if is_hidden(name) {
+            Ok(())
+        } else {
+            Err(StoreFail::Failed)
+        };
     };
     if name.is_empty() || name == "." || name == ".." {
         return Ok(());
@@ -82,9 +94,10 @@ fn read_names<D: Read>(entries: &mut D, piece: &mut [u8]) -> Result<usize, Store
     entries.read(piece).map_err(refusal_of)
 }
 
-/// The names of the plain files of a folder, whose path ends with a slash.
+/// The names of the plain files of a folder.
 fn plain_files<R: Files>(alloc: Global, rt: &R, folder: &str) -> Result<Names, StoreFail> {
-    let mut entries = rt.open_dir(folder).map_err(refusal_of)?;
+    let folder = join(alloc, folder, "/")?;
+    let mut entries = rt.open_dir(folder.as_str()).map_err(refusal_of)?;
     let mut piece = vec![in alloc; 0u8; PIECE]?;
     let mut names = Names::new(alloc);
     for _ in 0..u64::MAX {
@@ -93,7 +106,7 @@ fn plain_files<R: Files>(alloc: Global, rt: &R, folder: &str) -> Result<Names, S
             return Ok(names);
         }
         for name in piece[..n].split(|byte| *byte == 0) {
-            keep_plain(alloc, rt, folder, name, &mut names)?;
+            keep_plain(alloc, rt, folder.as_str(), name, &mut names)?;
         }
     }
     Err(StoreFail::Failed)
@@ -140,8 +153,7 @@ impl<'a, R: Files> Store for FileStore<'a, R> {
     ghost misses = { λ s. s.misses };
 
     fn list(&mut self, alloc: Global, folder: &str) -> Result<Names, StoreFail> {
-        let path = join(alloc, folder, "/")?;
-        match plain_files(alloc, self.rt, path.as_str()) {
+        match plain_files(alloc, self.rt, folder) {
             Ok(names) => Ok(names),
             Err(fail) => Err(counted(fail, &mut self.faults, &mut self.misses)),
         }
@@ -151,7 +163,9 @@ impl<'a, R: Files> Store for FileStore<'a, R> {
         self.file = None;
         self.path = None;
         self.place = 0;
-        let name = Name::copy_of(alloc, path)?;
+        let Ok(name) = Name::copy_of(alloc, path) else {
+            return Err(StoreFail::Memory);
+        };
         match File::open(self.rt, path) {
             Ok(file) => {
                 self.file = Some(file);

@@ -13,15 +13,13 @@ mod sink;
 mod std_sink;
 mod steady_store;
 mod store;
-#[cfg(test)]
-mod tests;
 
 pub use calls::{Calls, StoreCall, StoreKind, WriteNumbers};
 pub use file_store::FileStore;
 pub use memory_sink::MemorySink;
 pub use memory_store::MemoryStore;
 pub use name::{Files, Name, Names};
-pub use read::{ReadFail, read_all};
+pub use read::{ReadBuffer, ReadFail, read_all, read_with};
 pub use sink::{Sink, SinkFail, write_all};
 pub use std_sink::StdSink;
 pub use steady_store::SteadyStore;

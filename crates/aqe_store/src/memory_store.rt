@@ -64,6 +64,7 @@ impl MemoryStore {
         ensures result { result ≡ StoreFail.Failed }
         ensures rose { Rose self.old.faults self.new.faults }
         ensures stays { self.old.faults ≤ self.new.faults }
+        ensures once { self.new.faults ≤ self.old.faults + 1 }
         ensures others { self.new ≡ record self.old { faults = self.new.faults } }
     {
         raise(&mut self.faults);
@@ -89,6 +90,8 @@ impl Store for MemoryStore {
             → ¬ (IsFolder self.old.shelf.files folder.now) }
         ensures causes { HasCauses self.old.faults self.new.faults
             self.old.shelf.misses self.new.shelf.misses result }
+        ensures as_before { result ≡ Err StoreFail.Memory
+            → self.new ≡ record self.old { lists = self.new.lists } }
         ensures fails { result ≡ Err StoreFail.Failed
             ↔ IsFailing self.old.failing StoreKind.List self.old.lists }
         ensures counted { self.new.lists ≡ min (self.old.lists + 1) (2 ^ 32 - 1) }

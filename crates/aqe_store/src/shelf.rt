@@ -131,6 +131,7 @@ impl Shelf {
         ensures result { result ≡ StoreFail.Missing }
         ensures rose { Rose self.old.misses self.new.misses }
         ensures stays { self.old.misses ≤ self.new.misses }
+        ensures once { self.new.misses ≤ self.old.misses + 1 }
         ensures others { self.new ≡ record self.old { misses = self.new.misses } }
     {
         raise(&mut self.misses);
@@ -145,9 +146,10 @@ impl Shelf {
         ensures others { self.new ≡ record self.old { misses = self.new.misses } }
         ensures causes { HasCauses 0 0 self.old.misses self.new.misses result }
     {
-        match names_of(alloc, self.files.slice(), folder)? {
-            Some(names) => Ok(names),
-            None => Err(self.miss()),
+        match names_of(alloc, self.files.slice(), folder) {
+            Ok(Some(names)) => Ok(names),
+            Ok(None) => Err(self.miss()),
+            Err(Memory) => Err(StoreFail::Memory),
         }
     }
 
@@ -172,8 +174,13 @@ impl Shelf {
         if find_content(self.files.slice(), path).is_none() {
             return Err(self.miss());
         }
-        self.path = Some(Name::copy_of(alloc, path)?);
-        Ok(())
+        match Name::copy_of(alloc, path) {
+            Ok(name) => {
+                self.path = Some(name);
+                Ok(())
+            }
+            Err(_) => Err(StoreFail::Memory),
+        }
     }
 
     /// The next bytes of the open file.

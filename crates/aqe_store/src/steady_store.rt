@@ -1,6 +1,8 @@
 //! A store in memory that never fails.
 
-ghost use Rattle.std.specs.Prelude.{◌≡◌, ◌++◌, Some, None, length, take, min, IsOk, IfOk};
+ghost use Rattle.std.specs.Prelude.{◌≡◌, ◌++◌, Some, None, Err, length, take, min, IsOk, IfOk, OnOk};
+ghost use Rattle.aqe_store.specs.Files.{IsFolder, IsListing};
+ghost use Rattle.aqe_store.specs.Causes.{HasCauses};
 ghost use Rattle.aqe_store.specs.Told.{advanced};
 ghost use Rattle.aqe_store.specs.Shelf.{open_on, left_on};
 
@@ -37,7 +39,16 @@ impl Store for SteadyStore {
 
     ghost misses = { λ s. s.shelf.misses };
 
-    fn list(&mut self, alloc: Global, folder: &str) -> Result<Names, StoreFail> {
+    fn list(&mut self, alloc: Global, folder: &str) -> Result<Names, StoreFail>
+        ensures keeps { self.new.shelf.files ≡ self.old.shelf.files }
+        ensures names { IfOk result (λ names. IsListing self.old.shelf.files folder.now names) }
+        ensures opened { open_on self.new.shelf ≡ open_on self.old.shelf }
+        ensures there { OnOk result (IsFolder self.old.shelf.files folder.now) }
+        ensures missing { result ≡ Err StoreFail.Missing
+            → ¬ (IsFolder self.old.shelf.files folder.now) }
+        ensures causes { HasCauses 0 0 self.old.shelf.misses self.new.shelf.misses result }
+        ensures as_before { result ≡ Err StoreFail.Memory → self.new ≡ self.old }
+    {
         self.shelf.list(alloc, folder)
     }
 

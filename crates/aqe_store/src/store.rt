@@ -39,6 +39,9 @@ impl From<AllocError> for StoreFail {
 }
 
 /// A store of files, of which at most one is open.
+///
+/// Its two counts tell each refusal and nothing else: an answer other than `Failed` leaves the faults, and an
+/// answer other than `Missing` the misses, as they are.
 pub trait Store {
     /// The files, where the store tells them.
     ghost files: { Self → Option Entries };
@@ -52,7 +55,8 @@ pub trait Store {
     /// How often a file or folder was not there.
     ghost misses: { Self → ℕ };
 
-    /// The names of the plain files of a folder. A file that is open stays open.
+    /// The names of the plain files of a folder. A file that is open stays open, and after want of memory
+    /// the store is as before.
     fn list(&mut self, alloc: Global, folder: &str) -> Result<Names, StoreFail>
         ensures keeps { KeepsFiles (files self.old) (files self.new) }
         ensures names { IfOk result (λ names.
@@ -61,6 +65,7 @@ pub trait Store {
         ensures there { OnOk result (WhereTold (files self.old) (λ told. IsFolder told folder.now)) }
         ensures missing { result ≡ Err StoreFail.Missing
             → WhereTold (files self.old) (λ told. ¬ (IsFolder told folder.now)) }
+        ensures as_before { result ≡ Err StoreFail.Memory → files self.new ≡ files self.old }
         ensures causes { HasCauses (faults self.old) (faults self.new)
             (misses self.old) (misses self.new) result };
 

@@ -9,11 +9,15 @@ mod queries;
 mod scripts;
 mod statements;
 mod tables;
-#[cfg(test)]
-mod tests;
 mod words;
 
 pub use aqe_spell::spell;
+pub use aqe_trees::{
+    AndTree, Arm, ColumnForms, CompareOp, ComparisonTree, CoreTree, ItemTree, JoinStep, JoinedTree,
+    NotTree, OptionForms, OrTree, PredicateTree, PrimaryTree, ProductOp, ProductTree, QueryTree,
+    Script, SelectTree, SetForm, Sign, SignTree, SortTree, SourceTree, Stmt, SumTree, TableForm,
+    Test, Truth, UnionTree,
+};
 pub use fault::SyntaxFault;
 pub use parsing::parse;
 pub use queries::query;

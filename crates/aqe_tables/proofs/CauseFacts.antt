@@ -21,7 +21,7 @@ cause_of_file : ℕ → DataFile → LoadFault
 cause_of_file before file =
     if nat_lt text_limit (length file.1) then fault.TooLong file.0
     else if nat_lt bytes_limit (before + length file.1) then fault.TooManyBytes
-    else fault.NotBuilt
+    else fault.NotBuilt file.0
 
 one_of_file : (sep before : ℕ) (file : DataFile) (why : LoadFault) → FileCause sep before file why → why ≡ cause_of_file before file
 unfolding cause_of_file
@@ -30,10 +30,10 @@ one_of_file sep before file fault.TooManyBytes h =
     let short = le-ltb text_limit (length file.1) h.0 in
     let many = lt-ltb bytes_limit (before + length file.1) h.1 in
     rw (short, many) refl
-one_of_file sep before file fault.NotBuilt h =
-    let short = le-ltb text_limit (length file.1) h.0 in
-    let few = le-ltb bytes_limit (before + length file.1) h.1 in
-    rw (short, few) refl
+one_of_file sep before file (fault.NotBuilt name) h =
+    let short = le-ltb text_limit (length file.1) h.1 in
+    let few = le-ltb bytes_limit (before + length file.1) h.2 in
+    rw (short, few, h.0) refl
 one_of_file sep before file fault.ReadFault h = absurd h
 one_of_file sep before file fault.Missing h = absurd h
 one_of_file sep before file fault.TooManyFiles h = absurd h
@@ -43,7 +43,7 @@ one_of_file sep before file fault.Memory h = absurd h
 good_no_cause : (sep before : ℕ) (file : DataFile) (why : LoadFault) → IsGood sep before file.1 → FileCause sep before file why → ⊥
 good_no_cause sep before file (fault.TooLong name) g h = omega (arith, g.fits, h.1)
 good_no_cause sep before file fault.TooManyBytes g h = omega (arith, g.room, h.1)
-good_no_cause sep before file fault.NotBuilt g h = g.read h.2
+good_no_cause sep before file (fault.NotBuilt name) g h = g.read h.3
 good_no_cause sep before file fault.ReadFault g h = h
 good_no_cause sep before file fault.Missing g h = h
 good_no_cause sep before file fault.TooManyFiles g h = h
@@ -113,7 +113,7 @@ kind_of files table before fault.Missing x h = no_folder refl h
 kind_of files table before fault.TooManyFiles x h = many refl h
 kind_of files table before (fault.TooLong name) x h = bad h
 kind_of files table before fault.TooManyBytes x h = bad h
-kind_of files table before fault.NotBuilt x h = bad h
+kind_of files table before (fault.NotBuilt name) x h = bad h
 
 many_there : (files : Entries) (folder : List ℕ) → HasManyFiles files folder → IsFolder files folder
 many_there files folder m = folder_there files folder m.0 m.1 (omega (arith, m.2))

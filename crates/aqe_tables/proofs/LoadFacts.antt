@@ -134,7 +134,7 @@ stop files table names before i rows total name why prior wrong l e parts have =
     by fault.TooManyFiles h = h
     by (fault.TooLong file) h = stops_for (fault.TooLong file) (h.0 ∙ sym at.1, h.1)
     by fault.TooManyBytes h = stops_for fault.TooManyBytes (h.0, rw r.sum at h.1)
-    by fault.NotBuilt h = stops_for fault.NotBuilt (h.0, rw r.sum at h.1, h.2)
+    by (fault.NotBuilt file) h = stops_for (fault.NotBuilt file) (h.0 ∙ sym at.1, h.1, rw r.sum at h.2, h.3)
 
 pub stop_told : (told now : Option Entries) (table : CatalogTable) (names : List (List ℕ)) (before i : ℕ) (rows : List (List (List Value))) (total : ℕ) (name : List ℕ) (why : LoadFault)
     → KeepsFiles told now → WhereTold told (λ files. ReadUpTo files table names before i rows total) → WhereTold now (λ files. NotRead files table name total why)
@@ -225,7 +225,7 @@ cause_of files table names before why are few stops = by (held_names files table
         each fault.TooManyFiles h = absurd h
         each (fault.TooLong file) h = bad (fault.TooLong file) h
         each fault.TooManyBytes h = bad fault.TooManyBytes h
-        each fault.NotBuilt h = bad fault.NotBuilt h
+        each (fault.NotBuilt file) h = bad (fault.NotBuilt file) h
 
 pub cause_told : (told now : Option Entries) (table : CatalogTable) (names : List (List ℕ)) (before : ℕ) (why : LoadFault)
     → KeepsFiles told now → WhereTold told (λ files. AreDataNames files table.location names) → length names ≤ files_limit
@@ -243,7 +243,7 @@ folder_told (Some files) table before fault.Missing h = h
 folder_told (Some files) table before fault.TooManyFiles h = h
 folder_told (Some files) table before (fault.TooLong file) h = absurd h
 folder_told (Some files) table before fault.TooManyBytes h = absurd h
-folder_told (Some files) table before fault.NotBuilt h = absurd h
+folder_told (Some files) table before (fault.NotBuilt file) h = absurd h
 
 pub no_memory_told : (told : Option Entries) (table : CatalogTable) (before : ℕ) (why : LoadFault) → why ≡ fault.Memory → WhereTold told (λ files. LoadCause files table before why)
 no_memory_told None table before why e = tt

@@ -14,7 +14,8 @@ use Rattle.std.specs.Prelude.{map}
 use Rattle.std.proofs.lemmas.List.{map-append}
 use Rattle.aqe_values.specs.declared.schema.Field.{Field}
 use Rattle.aqe_values.specs.declared.value.Value.{Value}
-use Rattle.aqe_tables.specs.FileRows.{AreShort, AreTexts, IsRefused, awaits_header, data_records, fail_of, file_config, row_of}
+use Rattle.aqe_tables.specs.FileRows.{IsRefused, data_records, file_config, row_of}
+use Rattle.aqe_tables.specs.Records.{AreShort, AreTexts, awaits_header, fail_of}
 use Rattle.csv.specs.declared.parser.Config.{Config}
 use Rattle.csv.specs.declared.parser.Terminator.{Terminator}
 use Rattle.csv.specs.declared.parser.Terminator.TheVariants as term

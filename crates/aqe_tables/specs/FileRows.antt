@@ -1,20 +1,14 @@
 -- The rows of a data file under the form of its table.
-use Rattle.std.specs.Prelude.{◌≤◌, ⊤, ℕ, Bool, true, false, List, [], ◌∷◌, ◌++◌, length, map, Option, Some, None}
+use Rattle.std.specs.Prelude.{ℕ, Bool, true, false, List, [], ◌∷◌, ◌++◌, map, Some}
 use Rattle.csv.specs.Reading.{Reached, default_config, records, strip_bom}
 use Rattle.csv.specs.Records.{AllText}
-use Rattle.csv.specs.declared.error.ErrorKind.{ErrorKind}
-use Rattle.csv.specs.declared.error.ErrorKind.TheVariants as kind
 use Rattle.csv.specs.declared.parser.Config.{Config}
 use Rattle.csv.specs.declared.parser.State.{State}
 use Rattle.csv.specs.declared.parser.State.TheVariants as st
-use Rattle.aqe_values.specs.Bounds.{text_limit}
 use Rattle.aqe_values.specs.declared.schema.Field.{Field}
-use Rattle.aqe_values.specs.declared.sql_type.SqlType.{SqlType}
 use Rattle.aqe_values.specs.declared.value.Value.{Value}
 use Rattle.aqe_values.specs.declared.value.Value.TheVariants as value
 use Rattle.aqe_tables.specs.declared.form.FileForm.{FileForm}
-use Rattle.aqe_tables.specs.declared.records.FileFail.{FileFail}
-use Rattle.aqe_tables.specs.declared.records.FileFail.TheVariants as fail
 use Rattle.aqe_tables.specs.Fields.{field_value}
 
 -- How a file is cut into fields: at the separator. In a field between `"` a `""` stands for `"`, and a `\` and a byte
@@ -52,33 +46,3 @@ pub record IsRefused (separator : ℕ) (bytes : List ℕ) : Type 0 where
   pub rest : List ℕ
   pub reached : Reached (file_config separator) st.StartRecord (strip_bom bytes) (before ++ fields ∷ []) state rest
   pub no_text : ¬ (AllText fields)
-
--- An error of the reader refuses the file, but for want of memory, and but for a failure of what lies below the
--- reader, which bytes in memory never give.
-abbrev pub fail_of : ErrorKind → FileFail
-fail_of (kind.Io error) = fail.Memory
-fail_of kind.OutOfMemory = fail.Memory
-fail_of (kind.UnequalLengths position expected len) = fail.Refused
-fail_of (kind.Utf8 position error) = fail.Refused
-fail_of (kind.Serialize why) = fail.Refused
-fail_of (kind.Deserialize position error) = fail.Refused
-
--- each field is no longer than a text may be
-unfoldable pub AreShort : List (List ℕ) → Type 0
-AreShort [] = ⊤
-AreShort (field ∷ fields) = (length field ≤ text_limit) × AreShort fields
-
--- each record is text
-unfoldable pub AreTexts : List (List (List ℕ)) → Type 0
-AreTexts [] = ⊤
-AreTexts (fields ∷ others) = AllText fields × AreTexts others
-
--- the value of a field that may be missing
-abbrev pub cell_value : SqlType → Option (List ℕ) → Value
-cell_value kind None = value.Null
-cell_value kind (Some field) = field_value kind field
-
--- whether the next record is the header, once these were read
-abbrev pub awaits_header : Bool → List (List (List ℕ)) → Bool
-awaits_header header [] = header
-awaits_header header (first ∷ others) = false

@@ -1,5 +1,6 @@
 pub mod Fields
 pub mod FileRows
+pub mod Records
 pub mod Options
 pub mod Widths
 pub mod Catalog

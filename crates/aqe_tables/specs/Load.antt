@@ -45,8 +45,8 @@ abbrev pub FileCause : ℕ → ℕ → DataFile → LoadFault → Type 0
 FileCause separator before file (fault.TooLong name) = (name ≡ file.0) × (text_limit < length file.1)
 FileCause separator before file fault.TooManyBytes =
     (length file.1 ≤ text_limit) × (bytes_limit < before + length file.1)
-FileCause separator before file fault.NotBuilt =
-    (length file.1 ≤ text_limit) × (before + length file.1 ≤ bytes_limit) × IsUnread separator file.1
+FileCause separator before file (fault.NotBuilt name) =
+    (name ≡ file.0) × (length file.1 ≤ text_limit) × (before + length file.1 ≤ bytes_limit) × IsUnread separator file.1
 FileCause separator before file fault.ReadFault = ⊥
 FileCause separator before file fault.Missing = ⊥
 FileCause separator before file fault.TooManyFiles = ⊥
@@ -82,7 +82,7 @@ LoadCause files table before fault.Missing = ¬ (IsFolder files table.location)
 LoadCause files table before fault.TooManyFiles = HasManyFiles files table.location
 LoadCause files table before (fault.TooLong name) = HasBadFile files table before (fault.TooLong name)
 LoadCause files table before fault.TooManyBytes = HasBadFile files table before fault.TooManyBytes
-LoadCause files table before fault.NotBuilt = HasBadFile files table before fault.NotBuilt
+LoadCause files table before (fault.NotBuilt name) = HasBadFile files table before (fault.NotBuilt name)
 
 -- a table without files counts as one of one empty file
 abbrev pub or_one_empty : List (List (List Value)) → List (List (List Value))
@@ -122,7 +122,7 @@ is_excuse fault.Missing = false
 is_excuse fault.TooManyFiles = false
 is_excuse (fault.TooLong name) = false
 is_excuse fault.TooManyBytes = false
-is_excuse fault.NotBuilt = false
+is_excuse (fault.NotBuilt name) = false
 
 -- no cause of a refusal holds
 abbrev pub HasNoCause : Entries → CatalogTable → ℕ → Type 0

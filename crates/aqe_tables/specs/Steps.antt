@@ -14,15 +14,18 @@ use Rattle.aqe_tables.specs.FileRows.{file_rows}
 use Rattle.aqe_tables.specs.Folder.{AreHeld, DataFile, bytes_of, names_of, path_of}
 use Rattle.aqe_tables.specs.Load.{AreGood, FileCause, HasManyFiles, IsGood, StopsAt}
 
--- Files that are told stay told and as they are, no count falls, and an answer that blames the store has its count
--- risen.
-pub record IsLoadStep {A : Type 0} (told told' : Option Entries) (faults faults' misses misses' : ℕ)
-    (result : Result A LoadFault) : Type 0 where
+-- What a step leaves of the store, where it refuses with `fault` for a store that fails and with `miss` for what is not
+-- there: files that are told stay told and as they are, no count falls, and each count rises with its own refusal and
+-- with no other answer.
+pub record IsStep {A E : Type 0} (fault miss : E) (told told' : Option Entries) (faults faults' misses misses' : ℕ)
+    (result : Result A E) : Type 0 where
   pub keeps : KeepsFiles told told'
   pub faults_stay : faults ≤ faults'
   pub misses_stay : misses ≤ misses'
-  pub read_fault : result ≡ Err fault.ReadFault → Rose faults faults'
-  pub missing : result ≡ Err fault.Missing → Rose misses misses'
+  pub read_fault : result ≡ Err fault → Rose faults faults'
+  pub missing : result ≡ Err miss → Rose misses misses'
+  pub steady : (result ≡ Err fault → ⊥) → faults' ≡ faults
+  pub found : (result ≡ Err miss → ⊥) → misses' ≡ misses
 
 -- why a folder's names are refused
 abbrev pub FolderCause : Entries → List ℕ → LoadFault → Type 0
@@ -32,7 +35,7 @@ FolderCause files folder fault.Missing = ¬ (IsFolder files folder)
 FolderCause files folder fault.TooManyFiles = HasManyFiles files folder
 FolderCause files folder (fault.TooLong name) = ⊥
 FolderCause files folder fault.TooManyBytes = ⊥
-FolderCause files folder fault.NotBuilt = ⊥
+FolderCause files folder (fault.NotBuilt name) = ⊥
 
 -- why the bytes of a file are not had
 abbrev pub BytesCause : Entries → List ℕ → List ℕ → LoadFault → Type 0
@@ -42,17 +45,17 @@ BytesCause files path name fault.Missing = ¬ (IsHeld files path)
 BytesCause files path name (fault.TooLong file) = (file ≡ name) × IsLonger files path text_limit
 BytesCause files path name fault.TooManyFiles = ⊥
 BytesCause files path name fault.TooManyBytes = ⊥
-BytesCause files path name fault.NotBuilt = ⊥
+BytesCause files path name (fault.NotBuilt file) = ⊥
 
--- why bytes that are had give no rows, whatever the name of their file
-abbrev pub RowsCause : ℕ → ℕ → List ℕ → LoadFault → Type 0
-RowsCause separator before bytes fault.Memory = ⊤
-RowsCause separator before bytes fault.TooManyBytes = FileCause separator before ([], bytes) fault.TooManyBytes
-RowsCause separator before bytes fault.NotBuilt = FileCause separator before ([], bytes) fault.NotBuilt
-RowsCause separator before bytes (fault.TooLong name) = ⊥
-RowsCause separator before bytes fault.ReadFault = ⊥
-RowsCause separator before bytes fault.Missing = ⊥
-RowsCause separator before bytes fault.TooManyFiles = ⊥
+-- why a file that is had gives no rows
+abbrev pub RowsCause : ℕ → ℕ → DataFile → LoadFault → Type 0
+RowsCause separator before file fault.Memory = ⊤
+RowsCause separator before file fault.TooManyBytes = FileCause separator before file fault.TooManyBytes
+RowsCause separator before file (fault.NotBuilt name) = FileCause separator before file (fault.NotBuilt name)
+RowsCause separator before file (fault.TooLong name) = ⊥
+RowsCause separator before file fault.ReadFault = ⊥
+RowsCause separator before file fault.Missing = ⊥
+RowsCause separator before file fault.TooManyFiles = ⊥
 
 -- the file of this name was read: its rows and the number of its bytes
 pub record IsRead (files : Entries) (table : CatalogTable) (name : List ℕ) (before : ℕ) (file : LoadedFile) : Type 0 where
@@ -70,7 +73,7 @@ NotReadCause separator before file fault.Missing = ⊥
 NotReadCause separator before file fault.TooManyFiles = ⊥
 NotReadCause separator before file (fault.TooLong name) = FileCause separator before file (fault.TooLong name)
 NotReadCause separator before file fault.TooManyBytes = FileCause separator before file fault.TooManyBytes
-NotReadCause separator before file fault.NotBuilt = FileCause separator before file fault.NotBuilt
+NotReadCause separator before file (fault.NotBuilt name) = FileCause separator before file (fault.NotBuilt name)
 
 abbrev pub NotRead : Entries → CatalogTable → List ℕ → ℕ → LoadFault → Type 0
 NotRead files table name before why =
@@ -102,7 +105,7 @@ StopCause separator before parts fault.Missing = ⊥
 StopCause separator before parts fault.TooManyFiles = ⊥
 StopCause separator before parts (fault.TooLong name) = StopsAt separator before parts (fault.TooLong name)
 StopCause separator before parts fault.TooManyBytes = StopsAt separator before parts fault.TooManyBytes
-StopCause separator before parts fault.NotBuilt = StopsAt separator before parts fault.NotBuilt
+StopCause separator before parts (fault.NotBuilt name) = StopsAt separator before parts (fault.NotBuilt name)
 
 -- so it is, whatever files have the names
 abbrev pub FilesCause : Entries → CatalogTable → List (List ℕ) → ℕ → LoadFault → Type 0

@@ -6,7 +6,7 @@ ghost use Rattle.std.specs.Str.{str_eq_ignore_ascii_case};
 ghost use Rattle.aqe_tables.specs.Catalog.{catalog_table, column_limit, create_fault, find_table};
 ghost use Rattle.aqe_tables.specs.declared.catalog.CreateFault.TheVariants as fault;
 
-use crate::columns::{copy_columns, repeats_name};
+use crate::columns::{copy_columns, repeated_name};
 use crate::form::FileForm;
 use crate::options::{bad_key, has_header, is_same_word, separator_of};
 use aqe_trees::TableForm;
@@ -21,7 +21,10 @@ const COLUMN_LIMIT: usize = 256;
 #[derive(Debug, Drop)]
 pub enum CreateFault {
     /// Two columns have one name, but for the cases of ASCII letters.
-    RepeatedColumn,
+    RepeatedColumn {
+        /// The name as the later column writes it.
+        name: Text,
+    },
     /// There are more than 256 columns.
     TooManyColumns,
     /// An option is unknown, has a value that it may not have, or came before.
@@ -88,8 +91,9 @@ fn check(alloc: Global, tables: &[CatalogTable], form: &TableForm) -> Result<(),
     ensures failed { IfErr result (λ e. (e ≡ fault.Memory)
         ⊎ (create_fault tables.now form.now ≡ Some e)) }
 {
-    if repeats_name(alloc, form.columns.slice())? {
-        return Err(CreateFault::RepeatedColumn);
+    if let Some(name) = repeated_name(alloc, form.columns.slice())? {
+        let name = Text::copy_of(alloc, name.as_str())?;
+        return Err(CreateFault::RepeatedColumn { name });
     }
     if form.columns.len() > COLUMN_LIMIT {
         return Err(CreateFault::TooManyColumns);

@@ -1,8 +1,8 @@
 //! The columns of a table that is created.
 
-ghost use Rattle.std.specs.Prelude.{◌≡◌, map, IfOk};
+ghost use Rattle.std.specs.Prelude.{◌≡◌, [], map, option_map, IfOk};
 ghost use Rattle.std.specs.Str.{str_to_ascii_lowercase};
-ghost use Rattle.aqe_tables.specs.Catalog.{column_of as column_of_form, has_repeat, name_keys};
+ghost use Rattle.aqe_tables.specs.Catalog.{column_of as column_of_form, repeated_name as repeated_name_of};
 
 use aqe_values::{Field, Memory, Schema, SqlType, Text};
 use indexmap::IndexSet;
@@ -18,20 +18,20 @@ fn lowered(alloc: Global, text: &Text) -> Result<Text, Memory>
     }
 }
 
-/// Whether two columns have one name, but for the cases of ASCII letters.
-pub(crate) fn repeats_name(alloc: Global, columns: &[(Text, SqlType)]) -> Result<bool, Memory>
-    ensures { IfOk result (λ repeats. repeats ≡ has_repeat (name_keys columns.now)) }
+/// The name of the first column that has the name of one before it, but for the cases of ASCII letters.
+pub(crate) fn repeated_name(alloc: Global, columns: &[(Text, SqlType)]) -> Result<Option<&Text>, Memory>
+    ensures { IfOk result (λ name. option_map (λ text. text.now) name ≡ repeated_name_of [] columns.now) }
 {
     let mut names = IndexSet::new(alloc);
     'columns: for column in columns {
         let name = lowered(alloc, &column.0)?;
         match names.insert(name) {
             Ok(true) => {}
-            Ok(false) => return Ok(true),
+            Ok(false) => return Ok(Some(&column.0)),
             Err(_) => return Err(Memory),
         }
     }
-    Ok(false)
+    Ok(None)
 }
 
 fn copy_column(alloc: Global, column: &(Text, SqlType)) -> Result<Field, Memory>

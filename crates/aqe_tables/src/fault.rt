@@ -24,7 +24,10 @@ pub enum LoadFault {
     /// The loaded tables together would have more than 134,217,728 bytes.
     TooManyBytes,
     /// A file has a quote, a backslash or a byte above `~`, or is refused by the reader of CSV.
-    NotBuilt,
+    NotBuilt {
+        /// The name of the file.
+        file: Name,
+    },
     /// An allocation failed.
     Memory,
 }

@@ -8,7 +8,7 @@ ghost use Rattle.aqe_store.specs.Files.{IsFolder};
 ghost use Rattle.aqe_store.specs.Told.{WhereTold};
 ghost use Rattle.aqe_tables.specs.Folder.{AreDataNames, is_data_name as is_data_name_text, path_of};
 ghost use Rattle.aqe_tables.specs.Load.{files_limit};
-ghost use Rattle.aqe_tables.specs.Steps.{FolderCause, IsLoadStep};
+ghost use Rattle.aqe_tables.specs.Steps.{FolderCause, IsStep};
 ghost use Rattle.aqe_tables.specs.declared.fault.LoadFault.TheVariants as fault;
 
 use crate::fault::LoadFault;
@@ -80,7 +80,7 @@ pub(crate) fn data_names<S: Store>(
         (λ files. IsFolder files folder.now)) }
     ensures refused { IfErr result (λ why. WhereTold (S.files store.old)
         (λ files. FolderCause files folder.now why)) }
-    ensures step { IsLoadStep (S.files store.old) (S.files store.new) (S.faults store.old)
+    ensures step { IsStep fault.ReadFault fault.Missing (S.files store.old) (S.files store.new) (S.faults store.old)
         (S.faults store.new) (S.misses store.old) (S.misses store.new) result }
 {
     let names = match store.list(alloc, folder) {

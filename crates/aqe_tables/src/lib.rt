@@ -13,8 +13,6 @@ mod loaded;
 mod options;
 mod records;
 mod tables;
-#[cfg(test)]
-mod tests;
 
 pub use catalog::{Catalog, CatalogTable, CreateFault};
 pub use fault::LoadFault;

@@ -1,6 +1,6 @@
 //! The files of a table read one after the other.
 
-ghost use Rattle.std.specs.Prelude.{◌≡◌, ◌≤◌, ◌+◌, length, IfOk, IfErr, OnOk};
+ghost use Rattle.std.specs.Prelude.{◌≡◌, ◌≤◌, ◌+◌, length, Err, IfOk, IfErr, OnOk};
 ghost use Rattle.std.specs.Prelude.{All, Some};
 ghost use Rattle.std.specs.List.{list_all};
 ghost use Rattle.aqe_values.specs.Bounds.{text_limit};
@@ -8,8 +8,10 @@ ghost use Rattle.aqe_store.specs.Files.{content_of};
 ghost use Rattle.aqe_store.specs.Told.{WhereTold};
 ghost use Rattle.aqe_tables.specs.Catalog.{column_limit};
 ghost use Rattle.aqe_tables.specs.FileRows.{file_rows};
-ghost use Rattle.aqe_tables.specs.Load.{AreWide, IsGood, IsShaped, IsTableOf, LoadCause, bytes_limit, files_limit, is_plain as is_plain_byte, or_one_empty as or_one_empty_file};
-ghost use Rattle.aqe_tables.specs.Steps.{BytesCause, FilesCause, IsLoadStep, IsRead, NotRead, ReadUpTo, RowsCause};
+ghost use Rattle.aqe_tables.specs.Load.{AreWide, IsGood, IsShaped, IsTableOf, IsUnread, LoadCause, bytes_limit, files_limit, is_plain as is_plain_byte, or_one_empty as or_one_empty_file};
+ghost use Rattle.aqe_tables.specs.Steps.{BytesCause, FilesCause, IsRead, IsStep, NotRead, ReadUpTo, RowsCause};
+ghost use Rattle.aqe_tables.specs.declared.fault.LoadFault.TheVariants as fault;
+ghost use Rattle.aqe_tables.specs.declared.records.FileFail.TheVariants as fail;
 
 use crate::catalog::CatalogTable;
 use crate::fault::LoadFault;
@@ -55,7 +57,7 @@ fn file_bytes<S: Store>(
     ensures bound { IfOk result (λ bytes. length bytes ≤ text_limit) }
     ensures refused { IfErr result (λ why. WhereTold (S.files store.old)
         (λ files. BytesCause files path.now name.now why)) }
-    ensures step { IsLoadStep (S.files store.old) (S.files store.new) (S.faults store.old)
+    ensures step { IsStep fault.ReadFault fault.Missing (S.files store.old) (S.files store.new) (S.faults store.old)
         (S.faults store.new) (S.misses store.old) (S.misses store.new) result }
 {
     match read_all(alloc, store, path, FILE_LIMIT) {
@@ -70,10 +72,25 @@ fn file_bytes<S: Store>(
     }
 }
 
-/// The rows of a file's bytes, with so many bytes loaded before it.
+/// The rows of a file's bytes, if it has plain bytes alone and the reader of CSV takes them.
+fn plain_rows(alloc: Global, form: &FileForm, bytes: &[u8]) -> Result<Rows, FileFail>
+    requires narrow { length form.now.schema ≤ column_limit }
+    requires fits { length bytes.now ≤ text_limit }
+    ensures rows { IfOk result (λ rows. rows ≡ file_rows form.now bytes.now) }
+    ensures refused { result ≡ Err fail.Refused → IsUnread form.now.separator bytes.now }
+    ensures taken { OnOk result (¬ (IsUnread form.now.separator bytes.now)) }
+{
+    if !is_plain(bytes) {
+        return Err(FileFail::Refused);
+    }
+    read_rows(alloc, form, bytes)
+}
+
+/// The rows of the bytes of the file of this name, with so many bytes loaded before it.
 fn checked_rows(
     alloc: Global,
     form: &FileForm,
+    name: &Name,
     bytes: &[u8],
     before: u64,
 ) -> Result<Rows, LoadFault>
@@ -82,18 +99,18 @@ fn checked_rows(
     requires room { before ≤ bytes_limit }
     ensures rows { IfOk result (λ rows. rows ≡ file_rows form.now bytes.now) }
     ensures good { OnOk result (IsGood form.now.separator before bytes.now) }
-    ensures refused { IfErr result (λ why. RowsCause form.now.separator before bytes.now why) }
+    ensures refused { IfErr result (λ why. RowsCause form.now.separator before (name.now, bytes.now) why) }
 {
     if bytes.len() as u64 > BYTES_LIMIT - before {
         return Err(LoadFault::TooManyBytes);
     }
-    if !is_plain(bytes) {
-        return Err(LoadFault::NotBuilt);
-    }
-    match read_rows(alloc, form, bytes) {
+    match plain_rows(alloc, form, bytes) {
         Ok(rows) => Ok(rows),
-        Err(FileFail::Refused) => Err(LoadFault::NotBuilt),
         Err(FileFail::Memory) => Err(LoadFault::Memory),
+        Err(FileFail::Refused) => {
+            let file = Name::copy_of(alloc, name.as_str())?;
+            Err(LoadFault::NotBuilt { file })
+        }
     }
 }
 
@@ -113,12 +130,12 @@ fn read_file<S: Store>(
     ensures room { IfOk result (λ file. before + file.bytes ≤ bytes_limit) }
     ensures refused { IfErr result (λ why. WhereTold (S.files store.old)
         (λ files. NotRead files table.now name.now before why)) }
-    ensures step { IsLoadStep (S.files store.old) (S.files store.new) (S.faults store.old)
+    ensures step { IsStep fault.ReadFault fault.Missing (S.files store.old) (S.files store.new) (S.faults store.old)
         (S.faults store.new) (S.misses store.old) (S.misses store.new) result }
 {
     let path = path_in(alloc, table.location.as_str(), name.as_str())?;
     let bytes = file_bytes(alloc, store, path.as_str(), name.as_str())?;
-    let rows = checked_rows(alloc, &table.form, bytes.slice(), before)?;
+    let rows = checked_rows(alloc, &table.form, name, bytes.slice(), before)?;
     Ok(LoadedFile {
         rows,
         bytes: bytes.len() as u64,
@@ -142,7 +159,7 @@ fn read_files<S: Store>(
     ensures room { IfOk result (λ read. before + read.bytes ≤ bytes_limit) }
     ensures refused { IfErr result (λ why. WhereTold (S.files store.old)
         (λ files. FilesCause files table.now names.now before why)) }
-    ensures step { IsLoadStep (S.files store.old) (S.files store.new) (S.faults store.old)
+    ensures step { IsStep fault.ReadFault fault.Missing (S.files store.old) (S.files store.new) (S.faults store.old)
         (S.faults store.new) (S.misses store.old) (S.misses store.new) result }
 {
     let mut files = Listing::new(alloc);
@@ -183,7 +200,7 @@ pub(crate) fn read_table<S: Store>(
     ensures room { IfOk result (λ loaded. before + loaded.bytes ≤ bytes_limit) }
     ensures refused { IfErr result (λ why. WhereTold (S.files store.old)
         (λ files. LoadCause files table.now before why)) }
-    ensures step { IsLoadStep (S.files store.old) (S.files store.new) (S.faults store.old)
+    ensures step { IsStep fault.ReadFault fault.Missing (S.files store.old) (S.files store.new) (S.faults store.old)
         (S.faults store.new) (S.misses store.old) (S.misses store.new) result }
 {
     let names = data_names(alloc, store, table.location.as_str())?;

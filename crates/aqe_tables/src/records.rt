@@ -4,7 +4,8 @@ ghost use Rattle.std.specs.Prelude.{◌≡◌, ◌≤◌, ◌∷◌, ◌++◌, [
 ghost use Rattle.csv.specs.Reading.{error_kind};
 ghost use Rattle.csv.specs.Records.{fields_of};
 ghost use Rattle.aqe_values.specs.Bounds.{row_limit, text_limit};
-ghost use Rattle.aqe_tables.specs.FileRows.{AreShort, IsRefused, file_rows, row_of as record_row, fail_of as fail_of_kind};
+ghost use Rattle.aqe_tables.specs.FileRows.{IsRefused, file_rows, row_of as record_row};
+ghost use Rattle.aqe_tables.specs.Records.{AreShort, fail_of as fail_of_kind};
 ghost use Rattle.aqe_tables.specs.declared.records.FileFail.TheVariants as fail;
 
 use crate::field::cell_of;

@@ -4,8 +4,9 @@ ghost use Rattle.std.specs.Prelude.{◌≡◌, ◌≢◌, ◌≤◌, ◌<◌, �
 ghost use Rattle.std.specs.Option.{is_some, IsSomeAnd};
 ghost use Rattle.aqe_store.specs.Told.{WhereTold};
 ghost use Rattle.aqe_tables.specs.Load.{HasNoCause, HasNoOtherCause, IsShaped, IsTableOf, LoadCause};
+ghost use Rattle.aqe_tables.specs.declared.fault.LoadFault.TheVariants as fault;
 ghost use Rattle.aqe_tables.specs.Loaded.{AreSmall, IsLoaded, Loads, Pads, WhereLoaded, all_bytes, table_at};
-ghost use Rattle.aqe_tables.specs.Steps.{IsLoadStep};
+ghost use Rattle.aqe_tables.specs.Steps.{IsStep};
 
 use crate::catalog::Catalog;
 use crate::fault::LoadFault;
@@ -28,7 +29,8 @@ pub struct Tables {
 impl Model for Tables {
     ghost use Rattle.std.specs.Prelude.{◌≡◌, ◌≤◌, List, Option};
     ghost use Rattle.aqe_tables.specs.Load.{bytes_limit};
-    ghost use Rattle.aqe_tables.specs.Loaded.{AreSmall, Slots, all_bytes};
+    ghost use Rattle.aqe_tables.specs.declared.fault.LoadFault.TheVariants as fault;
+ghost use Rattle.aqe_tables.specs.Loaded.{AreSmall, Slots, all_bytes};
 
     ghost Value = { Slots };
 
@@ -155,7 +157,7 @@ impl Tables {
         ensures refused { IfErr result (λ why. WhereTold (S.files store.old)
             (λ files. IfSome (slice_get catalog.now table)
             (λ form. LoadCause files form (all_bytes self.old) why))) }
-        ensures step { IsLoadStep (S.files store.old) (S.files store.new) (S.faults store.old)
+        ensures step { IsStep fault.ReadFault fault.Missing (S.files store.old) (S.files store.new) (S.faults store.old)
             (S.faults store.new) (S.misses store.old) (S.misses store.new) result }
         ensures kept { OnErr result (self.new ≡ self.old) }
 

@@ -9,8 +9,6 @@ mod levels;
 mod literals;
 mod names;
 mod steps;
-#[cfg(test)]
-mod tests;
 mod value;
 
 pub use value::{is_column, value_over, value_with_aliases};

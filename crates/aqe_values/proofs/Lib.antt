@@ -1,1 +1,4 @@
 mod KnownAnswers
+pub mod Sortedness
+pub mod TotalOrders
+pub mod Words

@@ -14,5 +14,5 @@ pair_of f (x ∷ y ∷ z ∷ zs) a b s t l u e k h i = absurd (omega arith)
 pub returns-in-len2 : goal.returns-in-len2
 returns-in-len2 c =
     let run = (bytes_eq-Decides c.as_str.result.now (codes "run")).0 (sym c.eq.ensures ∙ c.if-eq.true) in
-    pair_of string_bytes c.args.words.now c.command-item.result c.path-item.result (codes "run") c.as_str-in-len2.result.now
-    c.in-len2.len_at_least c.in-len2.len_below c.command-item.is c.path-item.is (sym c.as_str.ensures.value ∙ run) (sym c.as_str-in-len2.ensures.value)
+    pair_of string_bytes c.args.words.now c.word-item.result c.path-item.result (codes "run") c.as_str-in-len2.result.now
+    c.in-len2.len_at_least c.in-len2.len_below c.word-item.is c.path-item.is (sym c.as_str.ensures.value ∙ run) (sym c.as_str-in-len2.ensures.value)

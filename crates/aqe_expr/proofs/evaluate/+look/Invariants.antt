@@ -1,7 +1,7 @@
 use Rattle.std.proofs.Common.{◌≡◌, ◌≤◌}
 use Rattle.aqe_expr.specs.declared.expr.Operands.{size-Operands}
 use Rattle.aqe_expr.specs.declared.expr.CasePairs.{size-CasePairs}
-use Rattle.aqe_expr.specs.Truths.{either}
+use Rattle.aqe_scalar.specs.Truths.{either}
 use Rattle.aqe_expr.specs.Meaning as spec
 use Rattle.aqe_expr.proofs.evaluate.+look.Given as goal
 

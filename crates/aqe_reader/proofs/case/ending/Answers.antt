@@ -1,11 +1,13 @@
+use Rattle.std.proofs.lemmas.Result.{err_from_is_err_and}
+use Rattle.aqe_reader.proofs.Outcomes.{ok_of, err_of}
 use Rattle.aqe_reader.proofs.Cases.{end_taken, else_taken, else_cut}
 use Rattle.aqe_reader.proofs.case.ending.Goals as goal
 
 pub returns-in-Some : goal.returns-in-Some
 returns-in-Some g c = end_taken c.in-Some.ensures
 
-pub returns-in_default-eat-2 : goal.returns-in_default-eat-2
-returns-in_default-eat-2 g c = λ r. else_cut c.in-Some-eat.ensures c.in_ok-value.ensures c.in_default-eat-2.ensures
+pub returns-in_err-value-2 : goal.returns-in_err-value-2
+returns-in_err-value-2 g c = let p = err_from_is_err_and c.from_residual-in_err-value-2.result c.from_residual-in_err-value-2.ensures.1 in rw (p.1, p.2) (λ r. else_cut c.in_ok-after.ensures c.in_ok-value.ensures (err_of _ _ c.expect-2.ensures c.in_err-value-2.ensures r))
 
 pub returns : goal.returns
-returns g c = rw c.in_ok-new.ensures (else_taken c.in-Some-eat.ensures c.in_ok-value.ensures c.in-Some-eat-2.ensures)
+returns g c = let h = c.in_ok-value-2.ensures in rw h.0 (else_taken c.in_ok-after.ensures c.in_ok-value.ensures (ok_of _ _ c.expect-2.ensures h.1))

@@ -9,4 +9,4 @@ pub returns-in_err-value : goal.returns-in_err-value
 returns-in_err-value g c = let p = err_from_is_err_and c.from_residual.result c.from_residual.ensures.1 in rw (p.1, p.2) (λ r. operand_refused c.in_default.ensures (c.in_err-value.ensures r))
 
 pub returns : goal.returns
-returns g c = rw c.in_ok-new.ensures (operand_read c.in_default.ensures c.in_ok-value.ensures)
+returns g c = operand_read c.in_default.ensures c.in_ok-value.ensures

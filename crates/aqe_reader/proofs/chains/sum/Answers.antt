@@ -1,4 +1,5 @@
 use Rattle.std.proofs.lemmas.Result.{err_from_is_err_and}
+use Rattle.aqe_reader.proofs.Outcomes.{ok_of, err_of}
 use Rattle.aqe_reader.proofs.SumChain.{sum_begins, sum_step, sum_done, sum_refused, sum_broken}
 use Rattle.aqe_reader.proofs.chains.sum.Goals as goal
 
@@ -6,13 +7,16 @@ pub more-init : goal.more-init
 more-init g c = rw c.new-items.ensures (sum_begins c.in_ok-first.ensures)
 
 pub more-preserved : goal.more-preserved
-more-preserved g c = let h = c.in-Some.ensures in rw c.in_ok-push.ensures.ok (sum_step c.more.invariant h.1 h.2 c.in_ok-item.ensures)
+more-preserved g c =
+    let h = c.in_ok-first-2.ensures in
+    let s = c.in-Some.ensures in
+    rw (h.0, h.3) (sum_step c.more.invariant s.1 s.2 (ok_of _ _ c.product-in-Some.ensures h.2))
 
 pub returns-in_err-first : goal.returns-in_err-first
 returns-in_err-first g c = let p = err_from_is_err_and c.from_residual.result c.from_residual.ensures.1 in rw (p.1, p.2) (λ r. sum_refused (c.in_err-first.ensures r))
 
-pub returns-in_err-item : goal.returns-in_err-item
-returns-in_err-item g c = let h = c.in-Some.ensures in let p = err_from_is_err_and c.from_residual-in_err-item.result c.from_residual-in_err-item.ensures.1 in rw (p.1, p.2) (λ r. sum_broken c.more.invariant h.1 h.2 (c.in_err-item.ensures r))
+pub returns-in_err-first-2 : goal.returns-in_err-first-2
+returns-in_err-first-2 g c = let p = err_from_is_err_and c.from_residual-in_err-first-2.result c.from_residual-in_err-first-2.ensures.1 in rw (p.1, p.2) (λ r. let s = c.in-Some.ensures in sum_broken c.more.invariant s.1 s.2 (err_of _ _ c.product-in-Some.ensures (c.in_err-first-2.ensures r) r))
 
 pub returns : goal.returns
 returns g c = rw c.new.ensures (sum_done c.more.invariant c.in_default.ensures)

@@ -1,8 +1,10 @@
+use Rattle.std.proofs.lemmas.Result.{err_from_is_err_and}
+use Rattle.aqe_reader.proofs.Outcomes.{ok_of, err_of}
 use Rattle.aqe_reader.proofs.Operands.{cast_read, cast_untyped}
 use Rattle.aqe_reader.proofs.primary.cast.Goals as goal
 
-pub returns-in_default-as_type : goal.returns-in_default-as_type
-returns-in_default-as_type g c = λ r. cast_untyped c.in-Some.ensures c.in_ok-value.ensures c.in_default-as_type.ensures
+pub returns-in_err-value-2 : goal.returns-in_err-value-2
+returns-in_err-value-2 g c = let p = err_from_is_err_and c.from_residual-in_err-value-2.result c.from_residual-in_err-value-2.ensures.1 in rw (p.1, p.2) (λ r. cast_untyped c.in_ok-inside.ensures c.in_ok-value.ensures (err_of _ _ c.as_type.ensures c.in_err-value-2.ensures r))
 
 pub returns : goal.returns
-returns g c = let h = c.in-Some-as_type.ensures in rw c.in_ok-cast.ensures (cast_read c.in-Some.ensures c.in_ok-value.ensures h.1 h.2)
+returns g c = let h = c.in_ok-value-2.ensures in rw h.0 (cast_read c.in_ok-inside.ensures c.in_ok-value.ensures (ok_of _ _ c.as_type.ensures h.1))

@@ -13,8 +13,8 @@ returns-in_err-file-clause-refused g c =
 pub files-preserved : goal.files-preserved
 files-preserved g c = record {
   keeps = keeps_through (g.S.Store.files c.args.store.now) (g.S.Store.files c.files.store) (g.S.Store.files c.read_file.new.store) c.files.invariant.keeps c.in_ok-file.ensures.step.keeps;
-  faults = omega (arith, c.files.invariant.faults, c.in_ok-file.ensures.step.faults_stay);
-  misses = omega (arith, c.files.invariant.misses, c.in_ok-file.ensures.step.misses_stay);
+  faults = c.in_ok-file.ensures.step.steady (λ e. cc e) ∙ c.files.invariant.faults;
+  misses = c.in_ok-file.ensures.step.found (λ e. cc e) ∙ c.files.invariant.misses;
   read = rw c.in_ok-push.ensures
       (read_more_told (g.S.Store.files c.args.store.now) (g.S.Store.files c.files.store) c.args.table.now c.args.names.now c.args.before c.files.name-index c.files.files c.files.total
       c.name-item.result c.in_ok-file.file c.files.invariant.keeps c.files.invariant.read c.in_ok-file.ensures.read c.files-test.true c.name-item.is);

@@ -1,0 +1,21 @@
+//! The tests of all crates that need a proof of their own: what no clause says and no script can show.
+//!
+//! What a script can show stands under `examples/`.
+#![tactic(auto)]
+
+#[cfg(test)]
+mod outside;
+#[cfg(test)]
+mod placing;
+#[cfg(test)]
+mod plans;
+#[cfg(test)]
+mod runs;
+#[cfg(test)]
+mod sources;
+#[cfg(test)]
+mod tables;
+#[cfg(test)]
+mod tokens;
+#[cfg(test)]
+mod values;

@@ -1,0 +1,41 @@
+-- What a run of the program does: the words of the clauses of `run_words`. They speak of the words of the command line, of
+-- the files where the store tells them (`told`), and of what `out` had taken before and after, where it tells that.
+use Rattle.std.specs.Prelude.{◌≡◌, ◌⊎◌, ℕ, List, Option}
+use Rattle.aqe_base.specs.declared.status.Status.{Status}
+use Rattle.aqe_base.specs.declared.status.Status.TheVariants as status
+use Rattle.aqe_store.specs.Causes.{Rose}
+use Rattle.aqe_store.specs.Files.{Entries}
+use Rattle.aqe_store.specs.Told.{Open, WhereTold}
+use Rattle.aqe_course.specs.Command.{Command, Says}
+use Rattle.aqe_course.specs.Course.{Query}
+use Rattle.aqe_course.specs.Ending.{Answers, Ends, IsAccepted, IsRefused, RefusesBehind}
+use Rattle.aqe_course.specs.Statuses.{is_failure}
+use Rattle.std.specs.Prelude.{IsTrue}
+
+-- the words say a command, and the fact holds of it and of the files
+abbrev pub OfCommand : Option Entries → List (List ℕ) → (Entries → Command → Type 0) → Type 0
+OfCommand told words fact = (said : Command) → Says words said → WhereTold told (λ files. fact files said)
+
+-- What success means: the script is carried out, and `out` grew by the printed text of one answer for each of its queries,
+-- in order, and by nothing else.
+abbrev pub AnswersAll : Option Entries → List (List ℕ) → Option (List ℕ) → Option (List ℕ) → Type 0
+AnswersAll told words old new = OfCommand told words (λ files said. Answers files said old new)
+
+-- The run is refused so by its course, and `out` grew by the texts of the queries before, all of them.
+abbrev pub IsRefusedWith : Option Entries → List (List ℕ) → Option (List ℕ) → Option (List ℕ) → Status → Type 0
+IsRefusedWith told words old new end = OfCommand told words (λ files said. RefusesBehind files said old new end)
+
+-- Whatever refusal the course has, it is this end, unless something failed.
+abbrev pub IsTheRefusal : Option Entries → List (List ℕ) → Status → Type 0
+IsTheRefusal told words end = OfCommand told words
+    (λ files said. (queries : List Query) (cause : Status) → IsRefused files said queries cause → (end ≡ cause) ⊎ IsTrue (is_failure end))
+
+-- How the run ended, in all: carried out, refused, or failed, with what stands in `out`.
+abbrev pub EndsSo : Option Entries → List (List ℕ) → Option Open → Option (List ℕ) → Option (List ℕ) → Status → Type 0
+EndsSo told words opened old new end = OfCommand told words (λ files said. Ends files said opened old new end)
+
+-- Where the course has no refusal, and neither the faults of the store nor those of `out` rise, the run is carried out or
+-- memory is wanting.
+abbrev pub Completes : Option Entries → List (List ℕ) → Status → ℕ → ℕ → ℕ → ℕ → Type 0
+Completes told words end read read' written written' = OfCommand told words
+    (λ files said. IsAccepted files said → ¬ (Rose read read') → ¬ (Rose written written') → (end ≡ status.Done) ⊎ (end ≡ status.Memory))

@@ -1,0 +1,4 @@
+pub mod Reading
+pub mod Replacing
+pub mod Parts
+pub mod Laws

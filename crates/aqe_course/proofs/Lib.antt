@@ -1,0 +1,3 @@
+pub mod OneLoading
+pub mod OneCourse
+pub mod Telling

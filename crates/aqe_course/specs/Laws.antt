@@ -1,0 +1,60 @@
+-- What holds of the courses and the ends of all runs.
+use Rattle.std.specs.Prelude.{◌≡◌, ◌⊎◌, ⊤, ℕ, List, [], ◌∷◌, Option, IsTrue}
+use Rattle.aqe_base.specs.declared.status.Status.{Status}
+use Rattle.aqe_base.specs.declared.status.Status.TheVariants as status
+use Rattle.aqe_store.specs.Files.{Entries}
+use Rattle.aqe_store.specs.Told.{Open}
+use Rattle.aqe_tables.specs.Loaded.{table_at}
+use Rattle.aqe_course.specs.Command.{Command}
+use Rattle.aqe_course.specs.Course.{Query}
+use Rattle.aqe_course.specs.Ending.{Answers, Ends, IsAccepted, IsDone, IsRefused, RefusesBehind}
+use Rattle.aqe_course.specs.Statuses.{is_failure, is_refusal}
+
+-- the same plan, over the same loaded tables
+pub record AreAlike (this other : Query) : Type 0 where
+  pub plan : this.plan ≡ other.plan
+  pub tables : (n : ℕ) → table_at this.tables n ≡ table_at other.tables n
+
+-- the same queries in the same order
+abbrev pub AreAllAlike : List Query → List Query → Type 0
+AreAllAlike [] [] = ⊤
+AreAllAlike [] (other ∷ others) = ⊥
+AreAllAlike (this ∷ those) [] = ⊥
+AreAllAlike (this ∷ those) (other ∷ others) = AreAlike this other × AreAllAlike those others
+
+-- a run is refused with one status at most, behind the same queries
+pub record OneRefusal (those others : List Query) (this other : Status) : Type 0 where
+  pub end : this ≡ other
+  pub queries : AreAllAlike those others
+
+abbrev pub RunsHaveOneRefusal : Type 0
+RunsHaveOneRefusal = (files : Entries) (said : Command) (those others : List Query) (this other : Status)
+    → IsRefused files said those this → IsRefused files said others other → OneRefusal those others this other
+
+-- a run that is carried out is not refused
+abbrev pub DoneIsNotRefused : Type 0
+DoneIsNotRefused = (files : Entries) (said : Command) (queries others : List Query) (end : Status)
+    → IsDone files said queries → IsRefused files said others end → ⊥
+
+-- a run that is carried out answers the same queries, however it is taken
+abbrev pub RunsAnswerTheSame : Type 0
+RunsAnswerTheSame = (files : Entries) (said : Command) (those others : List Query)
+    → IsDone files said those → IsDone files said others → AreAllAlike those others
+
+-- the refusals of the course are those of `is_refusal`
+abbrev pub RefusalsAreOfTheCourse : Type 0
+RefusalsAreOfTheCourse = (files : Entries) (said : Command) (queries : List Query) (end : Status)
+    → IsRefused files said queries end → IsTrue (is_refusal end)
+
+-- What the end of a run tells. With status 0 all its queries are answered; with a refusal it is that of the course; where
+-- the course has a refusal it comes, unless something failed; where it has none, the run is carried out, unless something
+-- failed.
+pub record EndTells (files : Entries) (said : Command) (old new : Option (List ℕ)) (end : Status) : Type 0 where
+  pub done : end ≡ status.Done → Answers files said old new
+  pub refused : IsTrue (is_refusal end) → RefusesBehind files said old new end
+  pub always : (queries : List Query) (cause : Status) → IsRefused files said queries cause → (end ≡ cause) ⊎ IsTrue (is_failure end)
+  pub completes : IsAccepted files said → (end ≡ status.Done) ⊎ IsTrue (is_failure end)
+
+abbrev pub EndsTell : Type 0
+EndsTell = (files : Entries) (said : Command) (opened : Option Open) (old new : Option (List ℕ)) (end : Status)
+    → Ends files said opened old new end → EndTells files said old new end

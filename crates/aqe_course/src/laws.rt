@@ -1,0 +1,28 @@
+//! Laws of the definitions, each the contract of a function that does nothing.
+
+ghost use Rattle.aqe_course.specs.Laws.{DoneIsNotRefused, EndsTell, RefusalsAreOfTheCourse, RunsAnswerTheSame, RunsHaveOneRefusal};
+
+/// A run is refused with one status at most, behind the same queries.
+pub fn runs_have_one_refusal()
+    ensures { RunsHaveOneRefusal }
+{}
+
+/// A run that is carried out is not refused.
+pub fn runs_end_in_one_way()
+    ensures { DoneIsNotRefused }
+{}
+
+/// A run that is carried out answers the same queries, however it is taken.
+pub fn runs_answer_the_same()
+    ensures { RunsAnswerTheSame }
+{}
+
+/// The refusals of the course are told by their status.
+pub fn refusals_are_of_the_course()
+    ensures { RefusalsAreOfTheCourse }
+{}
+
+/// What the end of a run tells of its course.
+pub fn ends_tell()
+    ensures { EndsTell }
+{}

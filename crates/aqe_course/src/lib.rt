@@ -1,0 +1,6 @@
+//! The course of a run as data: its command, its statements, and how it ends.
+#![tactic(auto)]
+
+mod laws;
+
+pub use laws::{ends_tell, refusals_are_of_the_course, runs_answer_the_same, runs_end_in_one_way, runs_have_one_refusal};

@@ -1,0 +1,17 @@
+pub mod Outcomes
+pub mod OperationsBelow
+pub mod Grouping
+pub mod Bounds
+pub mod Trees
+pub mod Below
+pub mod Readings
+pub mod Sources
+pub mod Selects
+pub mod Plans
+pub mod Unions
+pub mod Queries
+pub mod QueryTrees
+pub mod Same
+pub mod Walks
+pub mod Scans
+pub mod KnownQueries

@@ -1,0 +1,7 @@
+//! LIKE: which texts a pattern describes.
+#![tactic(auto)]
+
+mod pattern;
+mod search;
+
+pub use pattern::likes;

@@ -1,0 +1,55 @@
+-- The laws of exchanges, sorts and ranges.
+use Rattle.std.specs.Prelude.{◌≡◌, ℕ, ◌<◌, ◌+◌, Bool, true, false, List, [], ◌∷◌, filter, flat_map, length, All, IsPermutation}
+use Rattle.aqe_logical.specs.Answers.{Row}
+use Rattle.aqe_values.specs.KeyOrder.{key_order}
+use Rattle.aqe_logical.specs.declared.plan.SortKey.{SortKey}
+use Rattle.aqe_logical.specs.Order.{InOrder, row_order, before}
+use Rattle.aqe_places.specs.Places.{by_range, exchanged}
+use Rattle.aqe_places.specs.Sorting.{stable_sort, ways_of, key_of}
+
+-- where each row's place is that of a part, the parts have the rows that came in
+abbrev pub ExchangesKeepTheRows : Type 0
+ExchangesKeepTheRows =
+    (place : Row → ℕ) (n : ℕ) (rows : List Row) → ((row : Row) → place row < n) →
+    IsPermutation rows (flat_map (λ part. part) (exchanged place n rows))
+
+-- all rows of a part have the part's number as their place; the first part is number a
+abbrev pub Placed : (Row → ℕ) → ℕ → List (List Row) → Type 0
+Placed place a [] = Unit {0}
+Placed place a (part ∷ parts) = All (λ row. place row ≡ a) part × Placed place (a + 1) parts
+
+abbrev pub ExchangesPlaceTheRows : Type 0
+ExchangesPlaceTheRows = (place : Row → ℕ) (n : ℕ) (rows : List Row) → Placed place 0 (exchanged place n rows)
+
+-- with fewer bounds than parts, each place by range is that of a part
+abbrev pub RangePlacesAreParts : Type 0
+RangePlacesAreParts =
+    (less : Row → Row → Bool) (bounds : List Row) (key : Row → Row) (n : ℕ) (row : Row) → length bounds < n → by_range less bounds key row < n
+
+-- What a test of "comes strictly before" keeps: of two rows at most one comes before the other, and what does not come before a
+-- row that does not come before another does not come before that one either.
+pub record IsOrder (less : Row → Row → Bool) : Type 0 where
+  pub one_way : (x y : Row) → less x y ≡ true → less y x ≡ false
+  pub goes_on : (x y z : Row) → less x y ≡ false → less y z ≡ false → less x z ≡ false
+
+-- a sorted list has the rows that it was made of
+abbrev pub SortsKeepTheRows : Type 0
+SortsKeepTheRows = (less : Row → Row → Bool) (rows : List Row) → IsPermutation rows (stable_sort less rows)
+
+-- no later row of a sorted list comes before an earlier one
+abbrev pub SortsOrderTheRows : Type 0
+SortsOrderTheRows = (less : Row → Row → Bool) → IsOrder less → (rows : List Row) → InOrder less (stable_sort less rows)
+
+-- rows none of which comes before another stay in the order in which they came
+abbrev pub SortsAreStable : Type 0
+SortsAreStable =
+    (less : Row → Row → Bool) (tied : Row → Bool) (rows : List Row) → ((x y : Row) → tied x ≡ true → tied y ≡ true → less x y ≡ false) →
+    filter tied (stable_sort less rows) ≡ filter tied rows
+
+-- the order under sort keys is the order of key rows under the keys' ways
+abbrev pub SortKeysCompareKeyRows : Type 0
+SortKeysCompareKeyRows = (keys : List SortKey) (x y : Row) → row_order keys x y ≡ key_order (ways_of keys) (key_of keys x) (key_of keys y)
+
+-- the test of a sort by keys orders
+abbrev pub SortKeysOrder : Type 0
+SortKeysOrder = (keys : List SortKey) → IsOrder (before keys)

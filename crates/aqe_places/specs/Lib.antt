@@ -1,0 +1,4 @@
+pub mod Places
+pub mod Sorting
+pub mod Samples
+pub mod Laws

@@ -1,0 +1,149 @@
+-- The steps of a run put together, over the files that its store tells.
+use Rattle.std.proofs.Common.{◌≡◌, ◌⊎◌, inl, inr, ℕ, ◌≤◌, ◌<◌, List, [], ◌∷◌, ◌++◌, length, IsTrue, Option, Some, None, Result, Ok, Err, refl, sym, ap, subst, arith}
+use Rattle.std.specs.Prelude.{All, IfOk, IfErr, IfSome, OnOk}
+use Rattle.std.specs.Io.KnownBytes.{Appends}
+use Rattle.std.proofs.lemmas.List.{length-map}
+use Rattle.std.proofs.lemmas.List.Elements.{All-weaker}
+use Rattle.aqe_base.specs.declared.status.Status.{Status}
+use Rattle.aqe_base.specs.declared.status.Status.TheVariants as status
+use Rattle.aqe_values.specs.Bounds.{text_limit}
+use Rattle.aqe_values.specs.declared.schema.Field.{Field}
+use Rattle.aqe_store.specs.Files.{Entries, content_of}
+use Rattle.aqe_store.specs.Told.{Open, WhereTold}
+use Rattle.aqe_store.specs.Sink.{AppendsFront}
+use Rattle.aqe_logical.specs.declared.plan.Logical.{Logical}
+use Rattle.aqe_trees.specs.declared.query.QueryTree.{QueryTree}
+use Rattle.aqe_trees.specs.declared.statement.Stmt.{Stmt}
+use Rattle.aqe_trees.specs.declared.statement.Stmt.TheVariants as statement
+use Rattle.aqe_trees.specs.declared.statement.TableForm.{TableForm}
+use Rattle.aqe_tables.specs.declared.catalog.CatalogTable.{CatalogTable}
+use Rattle.aqe_rules.specs.Analysis.{Analysed}
+use Rattle.aqe_laws.proofs.QueryTrees.{well_formed}
+use Rattle.aqe_built.specs.Built.{is_query_built}
+use Rattle.aqe_analysis.specs.Catalogs.{seen}
+use Rattle.aqe_lists.specs.Forms.{IsNarrow, IsOfOneSource, scans}
+use Rattle.aqe_lists.proofs.Narrow.{narrow}
+use Rattle.aqe_course.specs.Command.{command}
+use Rattle.aqe_course.specs.Course.{State, Query, query, IsCreated, IsCarriedOut, IsNotAnalysed, IsRefusedStatement}
+use Rattle.aqe_course.specs.Loading.{AreLoaded}
+use Rattle.aqe_course.specs.Opening.{IsSource, IsRefusedSource, IsOpened, IsNotOpened}
+use Rattle.aqe_course.specs.Opening.Needed.{there, missing, too_long}
+use Rattle.aqe_course.specs.Opening.IsNotOpened.{no_file, refused}
+use Rattle.aqe_course.specs.Ending.{IsTextOf, ReadsTables, StopsAtScript}
+use Rattle.aqe_run.specs.Steps.{AreMissing, AreRefused, IsExcuse, IsNotRead, IsQueried, IsWritten, IsHalfWritten}
+use Rattle.aqe_run.proofs.Told.{told_one, told_then}
+use Rattle.aqe_run.proofs.Writing.{writes_none, writes_one}
+use Rattle.aqe_run.proofs.OneSource.{one_source, scans_within}
+use Rattle.aqe_run.proofs.ScriptFacts.{few_statements}
+
+-- a script's file that was not read
+not_read : (files : Entries) (path : List ℕ) (opened : Option Open) (end : Status) → (end ≡ status.ReadFault → IfSome opened (λ file. file.0 ≡ path))
+    → IsNotRead files path end ⊎ IsExcuse end → IsNotOpened files (command path) end ⊎ StopsAtScript opened (command path) end
+not_read files path opened end at (inl (inl (n, e))) = inl (no_file (missing n (ap Err e)))
+not_read files path opened end at (inl (inr (l, e))) = inl (no_file (too_long l (ap Err e)))
+not_read files path opened end at (inr (inl e)) = inr (inl e)
+not_read files path opened end at (inr (inr e)) = inr (inr (e, at e))
+
+pub source_not_read : (told : Option Entries) (path : List ℕ) (opened : Option Open) (end : Status) → (end ≡ status.ReadFault → IfSome opened (λ file. file.0 ≡ path))
+    → WhereTold told (λ files. IsNotRead files path end ⊎ IsExcuse end) → WhereTold told (λ files. IsNotOpened files (command path) end ⊎ StopsAtScript opened (command path) end)
+source_not_read told path opened end at h =
+    told_one (λ files. IsNotRead files path end ⊎ IsExcuse end) (λ files. IsNotOpened files (command path) end ⊎ StopsAtScript opened (command path) end) told
+    (λ files p. not_read files path opened end at p) h
+
+-- a script's file that was read
+pub script_opened : (told : Option Entries) (path source : List ℕ) (r : Result (List Stmt) Status)
+    → WhereTold told (λ files. content_of files path ≡ Some source) → length source ≤ text_limit → IfOk r (λ s. IsSource source s)
+    → IfOk r (λ s. WhereTold told (λ files. IsOpened files (command path) s))
+script_opened told path source (Ok s) held fits h =
+    told_one (λ files. content_of files path ≡ Some source) (λ files. IsOpened files (command path) s) told
+    (λ files e. record { source = source; has = there source e fits refl; is = h }) held
+script_opened told path source (Err e) held fits h = tt
+
+pub few_opened : (source : List ℕ) (r : Result (List Stmt) Status) → length source ≤ text_limit → IfOk r (λ s. IsSource source s) → IfOk r (λ s. length s ≤ 67108865)
+few_opened source (Ok s) fits h = let few = few_statements source s h in omega (arith, few, fits)
+few_opened source (Err e) fits h = tt
+
+source_refuses : (files : Entries) (path source : List ℕ) (opened : Option Open) (end : Status) → length source ≤ text_limit
+    → IsRefusedSource source end ⊎ (end ≡ status.Memory) → content_of files path ≡ Some source → IsNotOpened files (command path) end ⊎ StopsAtScript opened (command path) end
+source_refuses files path source opened end fits (inl r) e = inl (refused source (there source e fits refl) r)
+source_refuses files path source opened end fits (inr m) e = inr (inl m)
+
+pub source_refused : (told : Option Entries) (path source : List ℕ) (opened : Option Open) (r : Result (List Stmt) Status)
+    → WhereTold told (λ files. content_of files path ≡ Some source) → length source ≤ text_limit → IfErr r (λ end. IsRefusedSource source end ⊎ (end ≡ status.Memory))
+    → IfErr r (λ end. WhereTold told (λ files. IsNotOpened files (command path) end ⊎ StopsAtScript opened (command path) end))
+source_refused told path source opened (Ok s) held fits h = tt
+source_refused told path source opened (Err end) held fits h =
+    told_one (λ files. content_of files path ≡ Some source) (λ files. IsNotOpened files (command path) end ⊎ StopsAtScript opened (command path) end) told
+    (λ files e. source_refuses files path source opened end fits h e) held
+
+-- the store may have a file open: its path
+pub path_open : (opened : Option Open) (path : List ℕ) (most : ℕ) → IfSome opened (λ file. (file.0 ≡ path) × (file.1 ≤ most)) → IfSome opened (λ file. file.0 ≡ path)
+path_open None path most h = tt
+path_open (Some file) path most h = h.0
+
+-- a plan of the analysis can be evaluated, and scans tables of the catalog
+pub plan_form : (tree : QueryTree) (catalog : List CatalogTable) (plan : Logical) → IsTrue (is_query_built tree) → Analysed tree (seen catalog) plan → IsOfOneSource plan
+plan_form tree catalog plan b h = one_source tree (seen catalog) plan b h
+
+pub plan_narrow : (tree : QueryTree) (catalog : List CatalogTable) (plan : Logical) → Analysed tree (seen catalog) plan → IsNarrow plan
+plan_narrow tree catalog plan h = narrow plan (well_formed tree (seen catalog) plan h).0
+
+pub plan_within : (tree : QueryTree) (catalog : List CatalogTable) (plan : Logical) → Analysed tree (seen catalog) plan → All (λ n. n < length catalog) (scans plan)
+plan_within tree catalog plan h =
+    let same : length (seen catalog) ≡ length catalog = length-map {B = List ℕ × List Field} catalog (λ t. (t.name, t.form.schema)) in
+    All-weaker (λ n. n < length (seen catalog)) (λ n. n < length catalog) (λ n p. omega (arith, p, same)) (scans plan) (scans_within tree (seen catalog) plan h)
+
+-- a query that is analysed, and whose tables are loaded
+pub queried : (told : Option Entries) (now next : State) (tree : QueryTree) (plan : Logical) (r : Result (List ℕ) Status) → Analysed tree (seen now.catalog) plan
+    → IfOk r (λ text. WhereTold told (λ files. AreLoaded files now.catalog now.tables (scans plan) next.tables)) → IfOk r (λ text. IsTextOf (query plan next.tables) text)
+    → next.catalog ≡ now.catalog → IfOk r (λ text. WhereTold told (λ files. IsQueried files now tree next text))
+queried told now next tree plan (Ok text) a l t k =
+    told_one (λ files. AreLoaded files now.catalog now.tables (scans plan) next.tables) (λ files. IsQueried files now tree next text) told
+    (λ files p. record { query = query plan next.tables; is = record { plan = plan; analysed = a; loaded = p; kept = k; is = refl }; has = t }) l
+queried told now next tree plan (Err end) a l t k = tt
+
+-- a query that reads tables
+pub reads_query : (now : State) (tree : QueryTree) (plan : Logical) → Analysed tree (seen now.catalog) plan → AreMissing now.tables (scans plan) → ReadsTables now (statement.Query tree)
+reads_query now tree plan a m = record { tree = tree; is = refl; plan = plan; analysed = a; some = m }
+
+not_loads : (files : Entries) (now : State) (tree : QueryTree) (plan : Logical) (end : Status) → Analysed tree (seen now.catalog) plan
+    → AreRefused files now.catalog now.tables (scans plan) end ⊎ IsExcuse end → IsRefusedStatement files now (statement.Query tree) end ⊎ IsExcuse end
+not_loads files now tree plan end a (inl (why, s, e)) = inl (inr (record { plan = plan; analysed = a; why = why; stopped = s; is = e }))
+not_loads files now tree plan end a (inr x) = inr x
+
+pub not_queried : (told : Option Entries) (now : State) (tree : QueryTree) (plan : Logical) (r : Result (List ℕ) Status) → Analysed tree (seen now.catalog) plan
+    → IfErr r (λ end. WhereTold told (λ files. AreRefused files now.catalog now.tables (scans plan) end ⊎ IsExcuse end))
+    → IfErr r (λ end. WhereTold told (λ files. IsRefusedStatement files now (statement.Query tree) end ⊎ IsExcuse end))
+not_queried told now tree plan (Ok text) a h = tt
+not_queried told now tree plan (Err end) a h =
+    told_one (λ files. AreRefused files now.catalog now.tables (scans plan) end ⊎ IsExcuse end) (λ files. IsRefusedStatement files now (statement.Query tree) end ⊎ IsExcuse end) told
+    (λ files p. not_loads files now tree plan end a p) h
+
+not_planned : (files : Entries) (now : State) (tree : QueryTree) (end : Status) → IsNotAnalysed now tree end ⊎ (end ≡ status.Memory) → IsRefusedStatement files now (statement.Query tree) end ⊎ IsExcuse end
+not_planned files now tree end (inl h) = inl (inl h)
+not_planned files now tree end (inr e) = inr (inl e)
+
+pub not_analysed : (told : Option Entries) (now : State) (tree : QueryTree) (end : Status) → IsNotAnalysed now tree end ⊎ (end ≡ status.Memory)
+    → WhereTold told (λ files. IsRefusedStatement files now (statement.Query tree) end ⊎ IsExcuse end)
+not_analysed None now tree end h = tt
+not_analysed (Some files) now tree end h = not_planned files now tree end h
+
+-- a query whose text is written, and one whose text is written in part
+pub query_written : (told : Option Entries) (now next : State) (tree : QueryTree) (text : List ℕ) (a b : Option (List ℕ)) → WhereTold told (λ files. IsQueried files now tree next text) → Appends a b text
+    → WhereTold told (λ files. IsWritten files now (statement.Query tree) next a b)
+query_written told now next tree text a b h s =
+    told_one (λ files. IsQueried files now tree next text) (λ files. IsWritten files now (statement.Query tree) next a b) told
+    (λ files q. record { answered = q.query ∷ []; is = q.is; writes = writes_one a b q.query text q.has s }) h
+
+pub query_half : (told : Option Entries) (now next : State) (tree : QueryTree) (text : List ℕ) (a b : Option (List ℕ)) → WhereTold told (λ files. IsQueried files now tree next text) → AppendsFront a b text
+    → WhereTold told (λ files. IsHalfWritten files now (statement.Query tree) a b)
+query_half told now next tree text a b h s =
+    told_one (λ files. IsQueried files now tree next text) (λ files. IsHalfWritten files now (statement.Query tree) a b) told
+    (λ files q. record { next = next; query = q.query; is = q.is; text = text; has = q.has; front = s }) h
+
+pub create_written : (told : Option Entries) (now next : State) (one : Stmt) (form : TableForm) (a : Option (List ℕ)) (r : Result (Unit {0}) Status) → one ≡ statement.CreateTable form
+    → OnOk r (IsCreated now form next []) → OnOk r (WhereTold told (λ files. IsWritten files now one next a a))
+create_written None now next one form a (Ok u) e h = tt
+create_written (Some files) now next one form a (Ok u) e h =
+    record { answered = []; is = subst (λ o. IsCarriedOut files now o next []) (sym e) h; writes = writes_none a }
+create_written told now next one form a (Err end) e h = tt

@@ -1,0 +1,4 @@
+pub mod Numbers
+pub mod Truths
+pub mod Casts
+pub mod Keys

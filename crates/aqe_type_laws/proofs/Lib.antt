@@ -1,0 +1,6 @@
+pub mod Values
+pub mod OperationsTyped
+pub mod RowsTyped
+pub mod ReadingsTyped
+pub mod ExpressionsTyped
+pub mod AnswersTyped

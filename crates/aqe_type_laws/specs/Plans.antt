@@ -1,0 +1,47 @@
+-- Plans whose nodes give what their columns say.
+use Rattle.std.specs.Prelude.{List, ◌++◌, All, map}
+use Rattle.aqe_values.specs.declared.schema.Field.{Field}
+use Rattle.aqe_logical.specs.declared.plan.Logical.{Logical, OneRow, Scan, Empty, Held, HeldPartial}
+use Rattle.aqe_logical.specs.Shapes.{filtered, projected, joined, aggregated, united, sorted, limited, sampled}
+use Rattle.aqe_logical.specs.Columns.{schema_of}
+use Rattle.aqe_logical.specs.Answers.{Tables, Row, table_rows}
+use Rattle.aqe_logical.specs.Groups.{row_of, call_value}
+use Rattle.aqe_type_laws.specs.Fits.{FitsColumns}
+
+-- rows of these columns
+abbrev pub FitColumns : List Field → List Row → Type 0
+FitColumns columns rows = All (FitsColumns columns) rows
+
+-- Over rows below that fit their columns, the items of a Project, and the keys and calls of an Aggregate, have values of their
+-- columns; and the right side of a Union fits the columns of the left one. The other forms ask nothing of their own.
+abbrev pub KeepsTypes : Logical → Type 0
+KeepsTypes OneRow = Unit {0}
+KeepsTypes (Scan table schema) = Unit {0}
+KeepsTypes (filtered condition child) = KeepsTypes child
+KeepsTypes (projected items schema child) =
+    KeepsTypes child × ((row : Row) → FitsColumns (schema_of child) row → FitsColumns schema (row_of items row))
+KeepsTypes (joined kind condition left right) = KeepsTypes left × KeepsTypes right
+KeepsTypes (aggregated keys calls schema child) =
+    KeepsTypes child × ((row : Row) (group : List Row) → FitsColumns (schema_of child) row → FitColumns (schema_of child) group →
+    FitsColumns schema (row_of keys row ++ map (call_value group) calls))
+KeepsTypes (united left right) =
+    KeepsTypes left × KeepsTypes right × ((row : Row) → FitsColumns (schema_of right) row → FitsColumns (schema_of left) row)
+KeepsTypes (sorted keys child) = KeepsTypes child
+KeepsTypes (limited count skip child) = KeepsTypes child
+KeepsTypes (Empty schema) = Unit {0}
+KeepsTypes (Held stage place schema) = ⊥
+KeepsTypes (HeldPartial stage calls schema) = ⊥
+KeepsTypes (sampled stage child) = ⊥
+
+-- the rows of each table that a plan scans fit the columns of the scan
+abbrev pub ScansFit : Tables → Logical → Type 0
+ScansFit tables (Scan table schema) = FitColumns schema (table_rows tables table)
+ScansFit tables (filtered condition child) = ScansFit tables child
+ScansFit tables (projected items schema child) = ScansFit tables child
+ScansFit tables (joined kind condition left right) = ScansFit tables left × ScansFit tables right
+ScansFit tables (aggregated keys calls schema child) = ScansFit tables child
+ScansFit tables (united left right) = ScansFit tables left × ScansFit tables right
+ScansFit tables (sorted keys child) = ScansFit tables child
+ScansFit tables (limited count skip child) = ScansFit tables child
+ScansFit tables (sampled stage child) = ScansFit tables child
+ScansFit tables leaf = Unit {0}
