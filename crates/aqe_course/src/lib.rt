@@ -3,4 +3,7 @@
 
 mod laws;
 
-pub use laws::{ends_tell, refusals_are_of_the_course, runs_answer_the_same, runs_end_in_one_way, runs_have_one_refusal};
+pub use laws::{
+    ends_tell, refusals_are_of_the_course, runs_answer_the_same, runs_end_in_one_way,
+    runs_have_one_refusal,
+};

@@ -19,7 +19,10 @@ fn lowered(alloc: Global, text: &Text) -> Result<Text, Memory>
 }
 
 /// The name of the first column that has the name of one before it, but for the cases of ASCII letters.
-pub(crate) fn repeated_name(alloc: Global, columns: &[(Text, SqlType)]) -> Result<Option<&Text>, Memory>
+pub(crate) fn repeated_name(
+    alloc: Global,
+    columns: &[(Text, SqlType)],
+) -> Result<Option<&Text>, Memory>
     ensures { IfOk result (λ name. option_map (λ text. text.now) name ≡ repeated_name_of [] columns.now) }
 {
     let mut names = IndexSet::new(alloc);

@@ -30,7 +30,7 @@ impl Model for Tables {
     ghost use Rattle.std.specs.Prelude.{◌≡◌, ◌≤◌, List, Option};
     ghost use Rattle.aqe_tables.specs.Load.{bytes_limit};
     ghost use Rattle.aqe_tables.specs.declared.fault.LoadFault.TheVariants as fault;
-ghost use Rattle.aqe_tables.specs.Loaded.{AreSmall, Slots, all_bytes};
+    ghost use Rattle.aqe_tables.specs.Loaded.{AreSmall, Slots, all_bytes};
 
     ghost Value = { Slots };
 

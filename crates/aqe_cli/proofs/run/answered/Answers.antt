@@ -1,4 +1,5 @@
-use Rattle.std.proofs.Common.{◌≡◌, ◌∙◌, sym, map, string_bytes}
+use Rattle.std.proofs.Common.{map, string_bytes}
+use Rattle.aqe_course.specs.Command.{command}
 use Rattle.aqe_cli.proofs.HeadlineFacts.{answers_all, completes, ends_so, refused_with, the_refusal}
 use Rattle.aqe_cli.proofs.run.answered.Goals as goal
 
@@ -26,3 +27,9 @@ pub returns-in-Some-clause-completes : goal.returns-in-Some-clause-completes
 returns-in-Some-clause-completes g c =
     completes (g.S.Store.files c.args.store.now) (map string_bytes c.args.words.now) c.in-Some.path.now (g.S.Store.opened c.run.new.store) (g.O.Sink.taken c.args.out.now) (g.O.Sink.taken c.run.new.out)
     c.run.result _ _ _ _ c.in-Some.ensures c.run.ensures.ends (λ e. c.run.ensures.step.read_fault (cc e)) (λ e. c.run.ensures.sink.write_fault (cc e))
+
+pub returns-in-Some-clause-usage : goal.returns-in-Some-clause-usage
+returns-in-Some-clause-usage g c = (λ e. absurd (c.run.ensures.named.0 e), λ m. absurd (m (command c.in-Some.path.now) c.in-Some.ensures))
+
+pub returns-in-Some-clause-untouched : goal.returns-in-Some-clause-untouched
+returns-in-Some-clause-untouched g c m = absurd (m (command c.in-Some.path.now) c.in-Some.ensures)
