@@ -1,8 +1,8 @@
 -- Equal expressions are the same expression.
 use Rattle.std.proofs.Common.{◌≡◌, Bool, true, false, ◌&&◌, refl, ap, subst, rules, eqb-true, eq-eqb}
 use Rattle.std.specs.Cmp.Derive.{both_true}
-use Rattle.std.specs.Prelude.{IsTrue, ◌↔◌, ◌==◌}
-use Rattle.aqe_values.specs.Equality.{ValuesEqualAsData, value_eq}
+use Rattle.std.specs.Prelude.{IsTrue, ◌↔◌}
+use Rattle.aqe_values.specs.Equality.{ValuesEqualAsData}
 use Rattle.aqe_expr.specs.contracts.expr.UnaryOpPartialEq.TheImpl as unary_eq
 use Rattle.aqe_expr.specs.contracts.expr.BinaryOpPartialEq.TheImpl as binary_eq
 use Rattle.aqe_expr.specs.declared.expr.UnaryOp.{UnaryOp}

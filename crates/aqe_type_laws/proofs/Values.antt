@@ -1,6 +1,5 @@
 -- The values of operations are of the types that the operations give.
-use Rattle.std.proofs.Common.{◌≡◌, ℕ, ℤ, ◌+◌, Bool, true, false, cond, List, [], ◌∷◌, Option, Some, None, refl}
-use Rattle.std.specs.Prelude.{option_map, option_and_then}
+use Rattle.std.proofs.Common.{◌≡◌, ℤ, Bool, true, false, cond, Option, Some, None, refl}
 use Rattle.std.specs.Option.{option_map_or}
 use Rattle.aqe_values.specs.declared.value.Value.{Value}
 use Rattle.aqe_values.specs.declared.value.Value.TheVariants as value
@@ -8,7 +7,7 @@ use Rattle.aqe_values.specs.declared.sql_type.SqlType.{SqlType}
 use Rattle.aqe_values.specs.declared.sql_type.SqlType.TheVariants as sql
 use Rattle.aqe_expr.specs.Numbers.{arithmetic, negated, whole_quotient, int_value, bigint_value, on_numbers, quotient_of}
 use Rattle.aqe_expr.specs.Truths.{Truth, truth_value}
-use Rattle.aqe_expr.specs.Casts.{as_int, as_bigint, as_text, as_boolean, boolean_in, says_true, says_false, trimmed, character_count, in_range, fits_int, fits_bigint, number_in}
+use Rattle.aqe_expr.specs.Casts.{as_int, as_bigint, as_text, as_boolean, says_true, says_false, trimmed, character_count, in_range, fits_int, fits_bigint, number_in}
 use Rattle.aqe_expr.specs.Meaning.{like_value}
 use Rattle.aqe_rules.specs.Kinds.{is_number, is_same_kind, wider}
 use Rattle.aqe_type_laws.specs.Fits.{IsOf}
