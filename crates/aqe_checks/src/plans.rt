@@ -191,13 +191,21 @@ fn plan_of(alloc: Global, source: &str) -> Result<Logical, Fail>
     planned(alloc, &script)
 }
 
-/// How many expressions without columns have the same values.
-fn agreeing(alloc: Global, some: &[Expr], others: &[Expr]) -> Result<u64, Fail> {
+/// Whether the expressions, which are without columns, have one value.
+fn agree(alloc: Global, one: &Expr, other: &Expr) -> Result<bool, Fail> {
     let row = Row::new(alloc);
+    let value = eval(alloc, one, &row)?;
+    Ok(value == eval(alloc, other, &row)?)
+}
+
+/// How many of the expressions have the same value as the one at their place in the other list.
+fn agreeing(alloc: Global, some: &[Expr], others: &[Expr]) -> Result<u64, Fail> {
     let mut count: u64 = 0;
-    for (one, other) in some.iter().zip(others.iter()) {
-        if eval(alloc, one, &row)? == eval(alloc, other, &row)? {
-            count = count.wrapping_add(1);
+    for i in 0..some.len() {
+        if let (Some(one), Some(other)) = (some.get(i), others.get(i)) {
+            if agree(alloc, one, other)? {
+                count = count.wrapping_add(1);
+            }
         }
     }
     Ok(count)

@@ -1,5 +1,5 @@
 -- The replacement in each form of an expression, as the code makes it.
-use Rattle.std.proofs.Common.{◌≡◌, List, [], ◌∷◌, ◌++◌, ap, sym, refl, ◌∙◌}
+use Rattle.std.proofs.Common.{◌≡◌, List, [], ◌∷◌, ◌++◌, ap, sym, ◌∙◌}
 use Rattle.aqe_expr.specs.declared.expr.UnaryOp.{UnaryOp}
 use Rattle.aqe_expr.specs.declared.expr.BinaryOp.{BinaryOp}
 use Rattle.aqe_expr.specs.declared.expr.Expr.{Expr}

@@ -7,6 +7,9 @@ mod reading;
 mod replacing;
 
 pub use cutting::parts;
-pub use laws::{parts_hold_together, replacement_keeps_the_value};
+pub use laws::{
+    columns_below_as_data, parts_hold_together, replacement_keeps_the_value,
+    values_read_their_columns,
+};
 pub use reading::columns;
 pub use replacing::replaced;

@@ -1,38 +1,38 @@
 -- Known answers of whole queries: a check of the definitions by hand. A part of a query that is an expression is given by what
 -- is read of its tree: its meaning, whether it stands alone, and whether an aggregate function is called in it.
-use Rattle.std.proofs.Common.{◌≡◌, ℕ, List, [], ◌∷◌, refl, Bool, true, false, Option, Some, None, Ok, Err, codes, decimal, pos}
+use Rattle.std.proofs.Common.{◌≡◌, ℕ, List, [], ◌∷◌, ◌++◌, refl, ap, Bool, true, false, Some, None, Ok, Err, codes, decimal, pos}
 use Rattle.aqe_base.specs.declared.join_kind.JoinKind.TheVariants.{LeftSemi}
-use Rattle.aqe_base.specs.declared.status.AnalysisKind.TheVariants.{NoSuchColumn, BadPosition}
+use Rattle.aqe_base.specs.declared.status.AnalysisKind.TheVariants.{NoSuchColumn}
 use Rattle.aqe_values.specs.declared.schema.Field.{Field}
 use Rattle.aqe_values.specs.declared.sort_way.SortWay.{SortWay}
+use Rattle.aqe_values.specs.declared.sql_type.SqlType.{SqlType}
 use Rattle.aqe_values.specs.declared.sql_type.SqlType.TheVariants as sql
 use Rattle.aqe_values.specs.declared.value.Value.TheVariants as value
 use Rattle.aqe_expr.specs.declared.expr.UnaryOp.TheVariants as unary
 use Rattle.aqe_expr.specs.declared.expr.BinaryOp.TheVariants as binary
-use Rattle.aqe_expr.specs.declared.expr.Expr.{Column, Literal}
+use Rattle.aqe_expr.specs.declared.expr.Expr.{Expr, Column, Literal}
 use Rattle.aqe_expr.specs.Shapes.{unary_of, binary_of}
-use Rattle.aqe_logical.specs.declared.plan.AggCall.{AggCall}
-use Rattle.aqe_logical.specs.declared.plan.AggFun.TheVariants.{Count, Sum, Min, Max}
-use Rattle.aqe_logical.specs.declared.plan.SortKey.{SortKey}
+use Rattle.aqe_logical.specs.declared.plan.AggFun.{AggFun}
+use Rattle.aqe_logical.specs.declared.plan.AggFun.TheVariants.{Count, Sum}
 use Rattle.aqe_logical.specs.declared.plan.Logical.{Logical, Scan}
 use Rattle.aqe_logical.specs.Shapes.{filtered, projected, joined, aggregated, united, sorted}
 use Rattle.aqe_trees.specs.declared.expression.CompareOp.TheVariants as compare
 use Rattle.aqe_trees.specs.declared.expression.Sign.TheVariants as sign
 use Rattle.aqe_trees.specs.declared.expression.OrTree.{OrTree}
-use Rattle.aqe_trees.specs.declared.query.ItemTree.{ItemTree}
 use Rattle.aqe_trees.specs.declared.query.ItemTree.TheVariants as tree
 use Rattle.aqe_trees.specs.declared.query.SortTree.{SortTree}
 use Rattle.aqe_rules.specs.Outcomes.{Outcome, refused}
 use Rattle.aqe_rules.specs.declared.typed.Typed.{Typed}
+use Rattle.aqe_rules.specs.declared.names.Named.{Named}
 use Rattle.aqe_rules.specs.Operations.{typed}
 use Rattle.aqe_rules.specs.Readings.{Place, Reading, Call, readings}
 use Rattle.aqe_rules.specs.Looks.{Alone, a_number, a_column, something, Mention, plain}
 use Rattle.aqe_rules.specs.Expressions.{read, alone_of, has_aggregate, mentions_of}
-use Rattle.aqe_rules.specs.Sources.{Catalog, From}
-use Rattle.aqe_rules.specs.Selects.{Output, output, field, once, own_name}
+use Rattle.aqe_rules.specs.Sources.{Catalog, From, item, columns_of, over}
+use Rattle.aqe_rules.specs.Selects.{output, field, built, grouping_key, having_condition, calls_of, once}
 use Rattle.aqe_rules.specs.Plans.{shown, hidden, keys_of}
 use Rattle.aqe_rules.specs.Unions.{union_of}
-use Rattle.aqe_rules.specs.Analysis.{Core, rules}
+use Rattle.aqe_rules.specs.Analysis.{Core, rules, plan_of}
 
 -- the table t with the columns a INT and b BIGINT, and the table u with c STRING
 abbrev t_fields : List Field
@@ -100,13 +100,13 @@ semi_join_shows_the_left = refl
 semi_join_hides_the_right : (c : OrTree) → IsColumn c (codes "c") →
     query (rules.select false (tree.One c None ∷ []) (rules.joined (rules.table (codes "t") None) (record { kind = LeftSemi; source = rules.table (codes "u") None; on = None } ∷ []) ∷ []) None [] None) ≡
     Err (refused NoSuchColumn (codes "c"))
-semi_join_hides_the_right c is = rw (is.reads, is.stands, is.calls) refl
+semi_join_hides_the_right c is = rw is.reads refl
 
 -- SELECT b, a + a, b AS x FROM t: the second column has no name of its own
 names_of_columns : (b s : OrTree) → IsColumn b (codes "b") → IsRead s (readings.sum sign.Plus (readings.column (codes "a")) (readings.column (codes "a"))) something false (plain (codes "a") ∷ plain (codes "a") ∷ []) →
     query (rules.select false (tree.One b None ∷ tree.One s None ∷ tree.One b (Some (codes "x")) ∷ []) from_t None [] None) ≡
     Ok (projected (Column 1 ∷ binary_of binary.Add (Column 0) (Column 0) ∷ Column 1 ∷ [])
-    (field (codes "b") sql.BigInt ∷ field (codes "_c1") sql.Int ∷ field (codes "x") sql.BigInt ∷ []) scan_t)
+    (field (codes "b") sql.BigInt ∷ field (codes "_c" ++ decimal 1) sql.Int ∷ field (codes "x") sql.BigInt ∷ []) scan_t)
 names_of_columns b s is sum = rw (is.reads, is.stands, is.calls, sum.reads, sum.stands, sum.calls) refl
 
 -- SELECT a AS x, b AS a FROM t WHERE x = a: an alias counts where no column has the name
@@ -114,19 +114,26 @@ where_takes_aliases : (a b e : OrTree) → IsColumn a (codes "a") → IsColumn b
     IsRead e (readings.compare compare.Equal (readings.column (codes "x")) (readings.column (codes "a"))) something false (plain (codes "x") ∷ plain (codes "a") ∷ []) →
     query (rules.select false (tree.One a (Some (codes "x")) ∷ tree.One b (Some (codes "a")) ∷ []) from_t (Some e) [] None) ≡
     Ok (projected (Column 0 ∷ Column 1 ∷ []) (field (codes "x") sql.Int ∷ field (codes "a") sql.BigInt ∷ []) (filtered (binary_of binary.Eq (Column 0) (Column 0)) scan_t))
-where_takes_aliases a b e is_a is_b is_e = rw (is_e.reads, is_a.reads, is_a.stands, is_a.calls, is_b.reads, is_b.stands, is_b.calls) refl
+where_takes_aliases a b e is_a is_b is_e = rw (is_e.reads, is_a.reads, is_b.reads, is_a.calls, is_b.calls) refl
 
--- SELECT a FROM t GROUP BY a HAVING a < 5
-having : (a h : OrTree) → IsColumn a (codes "a") → IsRead h (readings.compare compare.Less (readings.column (codes "a")) (readings.number false 5 false)) something false (plain (codes "a") ∷ []) →
-    query (rules.select false (tree.One a None ∷ []) from_t None (a ∷ []) (Some h)) ≡
-    Ok (projected (Column 0 ∷ []) (field (codes "a") sql.Int ∷ []) (filtered (binary_of binary.Lt (Column 0) (Literal (value.Int (pos 5)))) (aggregated (Column 0 ∷ []) [] (field [] sql.Int ∷ []) scan_t)))
-having a h is_a is_h = rw (is_h.reads, is_a.reads, is_a.stands, is_a.calls) refl
+-- SELECT a FROM t GROUP BY a HAVING a < 5: HAVING is read over the groups, and stands above them
+abbrev t_columns : List Named
+t_columns = columns_of (item (Some (codes "t")) t_fields ∷ [])
+
+abbrev is_small : Typed
+is_small = typed (binary_of binary.Lt (Column 0) (Literal (value.Int (pos 5)))) sql.Boolean
+
+having_is_over_groups : (h : OrTree) → IsRead h (readings.compare compare.Less (readings.column (codes "b")) (readings.number false 5 true)) something false (plain (codes "b") ∷ []) →
+    having_condition (built true (typed (Column 1) sql.BigInt ∷ []) t_columns) (over t_columns) h ≡ Ok (typed (binary_of binary.Lt (Column 0) (Literal (value.BigInt (pos 5)))) sql.Boolean)
+having_is_over_groups h is = rw is.reads refl
+
+having_stands_above_groups : plan_of (record { below = scan_t; columns = t_columns; is_grouped = true; keys = typed (Column 0) sql.Int ∷ []; outputs = output (codes "a") (typed (Column 0) sql.Int) ∷ []; having = Some is_small; distinct = false }) [] [] ≡
+    projected (Column 0 ∷ []) (field (codes "a") sql.Int ∷ []) (filtered is_small.expr (aggregated (Column 0 ∷ []) [] (field [] sql.Int ∷ []) scan_t))
+having_stands_above_groups = refl
 
 -- SELECT b FROM t GROUP BY 1: a position counts the output columns
-group_position : (b one : OrTree) → IsColumn b (codes "b") → IsRead one (readings.number false 1 false) (a_number false 1) false [] →
-    query (rules.select false (tree.One b None ∷ []) from_t None (one ∷ []) None) ≡
-    Ok (projected (Column 0 ∷ []) (field (codes "b") sql.BigInt ∷ []) (aggregated (Column 1 ∷ []) [] (field [] sql.BigInt ∷ []) scan_t))
-group_position b one is_b is_one = rw (is_one.stands, is_b.reads, is_b.stands, is_b.calls) refl
+group_position : (b one : OrTree) → IsColumn b (codes "b") → grouping_key true (item (Some (codes "t")) t_fields ∷ []) (over t_columns) (tree.One b None ∷ []) one (a_number false 1) ≡ Ok (typed (Column 1) sql.BigInt)
+group_position b one is = ap (λ (r : Place → Reading). (r (over t_columns)).value) is.reads
 
 -- SELECT b, a FROM t ORDER BY 2 DESC NULLS LAST
 order_position : (a b two : OrTree) → IsColumn a (codes "a") → IsColumn b (codes "b") → IsRead two (readings.number false 2 false) (a_number false 2) false [] →
@@ -139,28 +146,31 @@ hidden_column : (a b : OrTree) → IsColumn a (codes "a") → IsColumn b (codes 
     ordered_query (rules.select false (tree.One a None ∷ []) from_t None [] None) (by b false true ∷ []) ≡
     Ok (projected (Column 0 ∷ []) (field (codes "a") sql.Int ∷ []) (sorted (record { expr = Column 1; way = way false true } ∷ [])
     (projected (Column 0 ∷ Column 1 ∷ []) (field (codes "a") sql.Int ∷ field [] sql.BigInt ∷ []) scan_t)))
-hidden_column a b is_a is_b = rw (is_a.reads, is_a.stands, is_a.calls, is_b.reads, is_b.stands, is_b.calls, is_b.mentioned) refl
+hidden_column a b is_a is_b = rw (is_a.reads, is_a.stands, is_a.calls, is_b.calls, is_b.stands, is_b.mentioned, is_b.reads) refl
 
 -- SELECT DISTINCT a FROM t ORDER BY b
 distinct_has_no_hidden_column : (a b : OrTree) → IsColumn a (codes "a") → IsColumn b (codes "b") →
     ordered_query (rules.select true (tree.One a None ∷ []) from_t None [] None) (by b false true ∷ []) ≡ Err (refused NoSuchColumn (codes "b"))
-distinct_has_no_hidden_column a b is_a is_b = rw (is_a.reads, is_a.stands, is_a.calls, is_b.reads, is_b.stands, is_b.calls, is_b.mentioned) refl
+distinct_has_no_hidden_column a b is_a is_b = rw (is_a.reads, is_a.stands, is_a.calls, is_b.calls, is_b.stands, is_b.mentioned) refl
 
--- SELECT sum(b), count(a) FROM t HAVING min(a) < 5 ORDER BY max(b): calls in the order of their use, each behind the keys
-abbrev sum_of_b : Place → Reading
-sum_of_b = readings.call (codes "sum") (readings.column (codes "b") ∷ [])
+-- the calls of a query: select list, HAVING, ORDER BY; each once, where it is used first
+calls_in_order : (s h o : OrTree) → calls_of (over t_columns) (over t_columns) (tree.One s None ∷ []) (Some h) (by o false true ∷ []) ≡
+    once (((read s (over t_columns)).calls ++ []) ++ (read h (over t_columns)).calls ++ ((read o (over t_columns)).calls ++ []))
+calls_in_order s h o = refl
 
-abbrev count_of_a : Place → Reading
-count_of_a = readings.call (codes "count") (readings.column (codes "a") ∷ [])
+abbrev call : AggFun → Expr → SqlType → Call
+call fun arg kind = record { call = record { fun = fun; arg = arg }; kind = kind }
 
-abbrev least_a : Place → Reading
-least_a = readings.call (codes "min") (readings.column (codes "a") ∷ [])
+calls_once : once (call Sum (Column 1) sql.BigInt ∷ call Count (Column 0) sql.BigInt ∷ call Sum (Column 1) sql.BigInt ∷ call Sum (Column 0) sql.BigInt ∷ call Count (Column 0) sql.BigInt ∷ []) ≡
+    call Sum (Column 1) sql.BigInt ∷ call Count (Column 0) sql.BigInt ∷ call Sum (Column 0) sql.BigInt ∷ []
+calls_once = refl
 
-order_of_calls : (s c h : OrTree) → (m n : List Mention) → IsRead s sum_of_b something true m → IsRead c count_of_a something true n →
-    IsRead h (readings.compare compare.Less least_a (readings.number false 5 false)) something true m →
-    query (rules.select false (tree.One s None ∷ tree.One c None ∷ tree.One s None ∷ []) from_t None [] (Some h)) ≡
-    Ok (projected (Column 0 ∷ Column 1 ∷ Column 0 ∷ []) (field (codes "_c0") sql.BigInt ∷ field (codes "_c1") sql.BigInt ∷ field (codes "_c2") sql.BigInt ∷ [])
-    (filtered (binary_of binary.Lt (Column 2) (Literal (value.Int (pos 5))))
-    (aggregated [] (record { fun = Sum; arg = Column 1 } ∷ record { fun = Count; arg = Column 0 } ∷ record { fun = Min; arg = Column 0 } ∷ [])
-    (field [] sql.BigInt ∷ field [] sql.BigInt ∷ field [] sql.Int ∷ []) scan_t)))
-order_of_calls s c h m n is_s is_c is_h = rw (is_s.reads, is_s.stands, is_s.calls, is_c.reads, is_c.stands, is_c.calls, is_h.reads, is_h.calls) refl
+-- an aggregate call over a column, as one call
+call_is_read : (readings.call (codes "SUM") (readings.column (codes "a") ∷ []) (over t_columns)).calls ≡ call Sum (Column 0) sql.BigInt ∷ []
+call_is_read = refl
+
+-- the values of calls stand behind those of the keys
+calls_stand_behind_keys : plan_of (record { below = scan_t; columns = t_columns; is_grouped = true; keys = typed (Column 0) sql.Int ∷ []; outputs = output (codes "x") (typed (Column 1) sql.BigInt) ∷ []; having = None; distinct = false })
+    (call Sum (Column 1) sql.BigInt ∷ []) [] ≡
+    projected (Column 1 ∷ []) (field (codes "x") sql.BigInt ∷ []) (aggregated (Column 0 ∷ []) (record { fun = Sum; arg = Column 1 } ∷ []) (field [] sql.Int ∷ field [] sql.BigInt ∷ []) scan_t)
+calls_stand_behind_keys = refl

@@ -1,8 +1,8 @@
 -- Equal expressions are the same expression.
 use Rattle.std.proofs.Common.{◌≡◌, Bool, true, false, ◌&&◌, refl, ap, subst, rules, eqb-true, eq-eqb}
 use Rattle.std.specs.Cmp.Derive.{both_true}
-use Rattle.std.specs.Prelude.{IsTrue, ◌↔◌, ◌==◌}
-use Rattle.aqe_values.specs.Equality.{ValuesEqualAsData, value_eq}
+use Rattle.std.specs.Prelude.{IsTrue, ◌↔◌}
+use Rattle.aqe_values.specs.Equality.{ValuesEqualAsData}
 use Rattle.aqe_expr.specs.contracts.expr.UnaryOpPartialEq.TheImpl as unary_eq
 use Rattle.aqe_expr.specs.contracts.expr.BinaryOpPartialEq.TheImpl as binary_eq
 use Rattle.aqe_expr.specs.declared.expr.UnaryOp.{UnaryOp}
@@ -40,7 +40,7 @@ mutual
   pub equal : (x y : Expr) → same_expr x y ≡ true → x ≡ y
   equal (Column m) (Column n) e = ap (λ k. Column k) (eqb-true m n e)
   equal (Literal v) (Literal w) e = ap (λ k. Literal k) ((values_same v w).0 e)
-  equal (unary_of op a) (unary_of oq b) e = 
+  equal (unary_of op a) (unary_of oq b) e =
       let s : op ≡ oq = (unary_same op oq).0 (first ((unary_eq.ghosts).eq op oq) (same_expr a b) e) in
       let t : a ≡ b = equal a b (second ((unary_eq.ghosts).eq op oq) (same_expr a b) e) in
       rw (s, t) refl

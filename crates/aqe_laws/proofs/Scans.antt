@@ -1,14 +1,11 @@
 -- Each scan of an analysed plan has the columns of its table.
-use Rattle.std.proofs.Common.{◌≡◌, ℕ, suc, ◌+◌, List, [], ◌∷◌, ◌++◌, map, Option, Some, None, Ok, arith, ap, subst}
-use Rattle.std.specs.Prelude.{All}
+use Rattle.std.proofs.Common.{◌≡◌, ℕ, suc, ◌+◌, List, [], ◌∷◌, Option, Some, None, arith, ap, subst}
 use Rattle.std.specs.List.{slice_get}
 use Rattle.std.proofs.lemmas.List.Elements.{All-nil, All-cons, All-append}
 use Rattle.aqe_values.specs.declared.schema.Field.{Field}
-use Rattle.aqe_logical.specs.declared.plan.Logical.{Logical, Scan}
-use Rattle.aqe_rules.specs.Outcomes.{Outcome}
+use Rattle.aqe_logical.specs.declared.plan.Logical.{Scan}
 use Rattle.aqe_rules.specs.Readings.{alike}
 use Rattle.aqe_rules.specs.Sources.{Catalog, table_named}
-use Rattle.aqe_rules.specs.Analysis.{walk}
 use Rattle.aqe_rules.proofs.Gives.{Gives, IfAny}
 use Rattle.aqe_laws.specs.Scans.{scanned_tables, columns_of_tables, HasItsColumns, ScansHaveTheirColumns}
 use Rattle.aqe_laws.specs.Laws.{ScansAreOfTheCatalog}

@@ -1,6 +1,6 @@
 -- Finishing the partial rows of parts gives the groups of the whole.
 use Rattle.std.proofs.Common.{◌≡◌, ℕ, zero, suc, ◌+◌, ◌-◌, Bool, true, false, cond, List, [], ◌∷◌, ◌++◌, map, take, length, refl, ap, sym, ◌∙◌, arith, append_assoc, subst, length-append}
-use Rattle.std.specs.Prelude.{filter, flat_map, fold, All, IsPermutation, slice_index_or}
+use Rattle.std.specs.Prelude.{filter, flat_map, All, IsPermutation, slice_index_or}
 use Rattle.std.specs.List.{list_any}
 use Rattle.std.proofs.lemmas.List.{length-map}
 use Rattle.std.proofs.lemmas.List.Elements.{All-nil, All-cons}
@@ -10,7 +10,7 @@ use Rattle.aqe_values.specs.Equality.{row_eq}
 use Rattle.aqe_expr.specs.Meaning.{val}
 use Rattle.aqe_logical.specs.declared.plan.AggCall.{AggCall}
 use Rattle.aqe_logical.specs.Answers.{Row}
-use Rattle.aqe_logical.specs.Groups.{row_of, distinct, group_keys, group_rows, finish_rows, finished, rows_with, call_value, single, merged, nothing}
+use Rattle.aqe_logical.specs.Groups.{row_of, group_keys, group_rows, finish_rows, finished, rows_with, call_value, single}
 use Rattle.aqe_partial.specs.PartialRows.{joined_parts, partial_rows, FinishingPartsIsGrouping, HeldPartialAnswersAsTheAggregate}
 use Rattle.aqe_partial.proofs.Lists.{any_map, filter_none, map_flat_map, filter_flat_map, map_agree, filter_map, take_front}
 use Rattle.aqe_partial.proofs.Merging.{total, total_parts}

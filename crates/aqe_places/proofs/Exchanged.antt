@@ -8,7 +8,7 @@ use Rattle.aqe_values.specs.Equality.{row_eq}
 use Rattle.aqe_logical.specs.Answers.{Row}
 use Rattle.aqe_logical.proofs.Rearranged.{total, total-filter, total-flat_map, times, bit, from_counts, permuted}
 use Rattle.aqe_logical.proofs.Rows.{rows_same}
-use Rattle.aqe_places.specs.Places.{part_of, exchanged, by_range}
+use Rattle.aqe_places.specs.Places.{part_of, exchanged}
 use Rattle.aqe_places.specs.Laws.{ExchangesKeepTheRows, ExchangesPlaceTheRows, RangePlacesAreParts, Placed}
 
 flat_map_map : {X Y : Type 0} (f : X → List Y) (xs : List X) → flat_map (λ p. p) (map f xs) ≡ flat_map f xs

@@ -1,9 +1,11 @@
 -- The laws of exchanges, sorts and ranges.
 use Rattle.std.specs.Prelude.{◌≡◌, ℕ, ◌<◌, ◌+◌, Bool, true, false, List, [], ◌∷◌, filter, flat_map, length, All, IsPermutation}
 use Rattle.aqe_logical.specs.Answers.{Row}
-use Rattle.aqe_logical.specs.Order.{InOrder}
+use Rattle.aqe_values.specs.KeyOrder.{key_order}
+use Rattle.aqe_logical.specs.declared.plan.SortKey.{SortKey}
+use Rattle.aqe_logical.specs.Order.{InOrder, row_order, before}
 use Rattle.aqe_places.specs.Places.{by_range, exchanged}
-use Rattle.aqe_places.specs.Sorting.{stable_sort}
+use Rattle.aqe_places.specs.Sorting.{stable_sort, ways_of, key_of}
 
 -- where each row's place is that of a part, the parts have the rows that came in
 abbrev pub ExchangesKeepTheRows : Type 0
@@ -43,3 +45,11 @@ abbrev pub SortsAreStable : Type 0
 SortsAreStable =
     (less : Row → Row → Bool) (tied : Row → Bool) (rows : List Row) → ((x y : Row) → tied x ≡ true → tied y ≡ true → less x y ≡ false) →
     filter tied (stable_sort less rows) ≡ filter tied rows
+
+-- the order under sort keys is the order of key rows under the keys' ways
+abbrev pub SortKeysCompareKeyRows : Type 0
+SortKeysCompareKeyRows = (keys : List SortKey) (x y : Row) → row_order keys x y ≡ key_order (ways_of keys) (key_of keys x) (key_of keys y)
+
+-- the test of a sort by keys orders
+abbrev pub SortKeysOrder : Type 0
+SortKeysOrder = (keys : List SortKey) → IsOrder (before keys)

@@ -1,10 +1,8 @@
 -- Where rows stand: the place of a row, and the parts that an exchange makes.
-use Rattle.std.specs.Prelude.{ℕ, ◌==◌, Bool, List, map, filter, flat_map, length}
+use Rattle.std.specs.Prelude.{ℕ, ◌==◌, Bool, List, map, filter, length}
 use Rattle.std.specs.List.{range_with_len}
-use Rattle.aqe_values.specs.declared.value.Value.{Value}
 use Rattle.aqe_values.specs.Murmur.{hash_place}
 use Rattle.aqe_expr.specs.declared.expr.Expr.{Expr}
-use Rattle.aqe_logical.specs.declared.plan.SortKey.{SortKey}
 use Rattle.aqe_logical.specs.Answers.{Row}
 use Rattle.aqe_logical.specs.Groups.{row_of}
 

@@ -1,5 +1,5 @@
 -- Samples of keys, and the bounds of ranges.
-use Rattle.std.specs.Prelude.{ℕ, zero, suc, ◌*◌, ◌-◌, ◌/◌, min, Bool, List, [], ◌∷◌, map, length, slice_index_or}
+use Rattle.std.specs.Prelude.{ℕ, ◌*◌, ◌-◌, ◌/◌, min, Bool, List, [], ◌∷◌, map, length, slice_index_or}
 use Rattle.std.specs.List.{range_with_len}
 use Rattle.aqe_logical.specs.Answers.{Row}
 use Rattle.aqe_places.specs.Sorting.{stable_sort}

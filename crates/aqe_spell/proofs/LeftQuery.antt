@@ -16,8 +16,8 @@ use Rattle.aqe_trees.specs.declared.query.SourceTree.{SourceTree}
 use Rattle.aqe_trees.specs.declared.query.SortTree.{SortTree}
 use Rattle.aqe_trees.specs.Lists.{Commas, no_comma, comma, Listed, listed, IsClause, no_clause, clause, IsBound, no_bound, bound, IsAlias, no_alias, alias, as_alias, IsDistinct, unsaid, all, distinct}
 use Rattle.aqe_trees.specs.Queries.{IsItem, all_columns, all_columns_of, one_column, IsWay, usual_way, ascending, descending, IsNulls, usual_nulls, nulls, IsSort, sort_of, IsOrder, unordered, ordered, IsGroup, ungrouped, grouped, IsKind, join, inner, cross, left, left_outer, right, right_outer, full, full_outer, semi, left_semi, anti, left_anti, IsQuery, query_of, IsUnion, union_of, IsUnionRest, union_end, union_more, IsCore, core_paren, core_select, IsSelect, select_of, IsFrom, no_from, from_of, IsFromRest, from_end, from_more, IsJoined, joined_of, IsJoinedRest, joined_end, joined_more, IsSource, table, source_paren}
-use Rattle.aqe_spell.specs.Written.{AllStand}
-use Rattle.aqe_spell.proofs.Left.{left_or, left_list}
+use Rattle.aqe_phrases.specs.Written.{AllStand}
+use Rattle.aqe_phrases.proofs.Left.{left_or, left_list}
 
 pub left_commas : {T : Type 0} {Is : T → List Terminal → List Terminal → Type 0} {rest : List T} {ts us : List Terminal}
     → ((t : T) (ps qs : List Terminal) → Is t ps qs → AllStand ps → AllStand qs) → Commas Is rest ts us → AllStand ts → AllStand us

@@ -1,10 +1,5 @@
-pub mod Left
 pub mod LeftQuery
-pub mod Taken
 pub mod TakenQuery
-pub mod Leaves
-pub mod Chains
-pub mod Expressions
 pub mod Queries
 pub mod Tables
 pub mod Cuts

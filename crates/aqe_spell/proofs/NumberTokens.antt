@@ -19,7 +19,7 @@ use Rattle.aqe_lexer.specs.Numbers.{digits_len, number_value, is_long, is_number
 use Rattle.aqe_lexer.specs.Pieces.{Begins, Fits}
 use Rattle.aqe_lexer.specs.TokenList.{token_at}
 use Rattle.aqe_trees.specs.declared.terminal.Terminal.TheVariants.{Number}
-use Rattle.aqe_spell.specs.Texts.{long_text}
+use Rattle.aqe_phrases.specs.Texts.{long_text}
 use Rattle.aqe_spell.specs.Tokens.{Gives}
 use Rattle.aqe_spell.proofs.Cuts.{text_at, prefix_all}
 use Rattle.aqe_spell.proofs.WordTokens.{IsOne, spaced_cut, spaced_at}

@@ -23,10 +23,11 @@ use Rattle.aqe_trees.specs.Shapes.{query_tree, union_tree, select_tree, joined_t
 use Rattle.aqe_trees.specs.Expressions.{IsOr, list_of, IsListRest, list_end}
 use Rattle.aqe_trees.specs.Lists.{Commas, no_comma, comma, Listed, listed, IsClause, no_clause, clause, IsBound, no_bound, bound, IsAlias, no_alias, alias, as_alias, IsDistinct, unsaid, all, distinct}
 use Rattle.aqe_trees.specs.Queries.{IsItem, all_columns, all_columns_of, one_column, IsWay, usual_way, descending, IsNulls, usual_nulls, nulls, IsSort, sort_of, IsOrder, unordered, ordered, IsGroup, ungrouped, grouped, IsKind, IsQuery, query_of, IsUnion, union_of, IsUnionRest, union_end, union_more, IsCore, core_paren, core_select, IsSelect, select_of, IsFrom, no_from, from_of, IsFromRest, from_end, from_more, IsJoined, joined_of, IsJoinedRest, joined_end, joined_more, IsSource, table, source_paren}
-use Rattle.aqe_spell.specs.Texts.{is_bare}
-use Rattle.aqe_spell.specs.Written.{AllStand, Adds, Spelled, Going, all_before, distinct_before, way_before, nulls_before}
-use Rattle.aqe_spell.proofs.Leaves.{adds_then, adds_none}
-use Rattle.aqe_spell.proofs.Left.{left_or}
+use Rattle.aqe_phrases.specs.Texts.{is_bare}
+use Rattle.aqe_phrases.specs.Written.{AllStand, Adds, Spelled, Going}
+use Rattle.aqe_spell.specs.Clauses.{all_before, distinct_before, way_before, nulls_before}
+use Rattle.aqe_phrases.proofs.Leaves.{adds_then, adds_none}
+use Rattle.aqe_phrases.proofs.Left.{left_or}
 use Rattle.aqe_spell.proofs.LeftQuery.{left_listed, left_clause, left_bound, left_distinct, left_item, left_sort, left_order, left_group, left_kind, left_query, left_union, left_core, left_from, left_joined, left_source}
 use Rattle.aqe_spell.proofs.TakenQuery.{query_cut, union_cut, joined_cut, select_cut, step_cut, core_paren_cut, core_select_cut, table_cut, source_paren_cut}
 

@@ -16,7 +16,7 @@ use Rattle.aqe_trees.specs.declared.terminal.Terminal.{Terminal}
 use Rattle.aqe_trees.specs.declared.terminal.Terminal.TheVariants.{Name, Literal}
 use Rattle.aqe_script.specs.Terminals.{key_of, key_of_text, fixed_or, content_terminal}
 use Rattle.aqe_script.specs.Statements.{parts}
-use Rattle.aqe_spell.specs.Texts.{doubled, escaped, name_text, literal_text}
+use Rattle.aqe_phrases.specs.Texts.{doubled, escaped, name_text, literal_text}
 use Rattle.aqe_spell.specs.Tokens.{Gives}
 use Rattle.aqe_spell.proofs.Cuts.{content_at}
 use Rattle.aqe_spell.proofs.WordTokens.{IsOne, spaced_cut, spaced_at}

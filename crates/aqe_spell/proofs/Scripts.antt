@@ -22,8 +22,9 @@ use Rattle.aqe_trees.specs.Keywords.{symbol_key}
 use Rattle.aqe_script.specs.Terminals.{terminal_of, terminals_of}
 use Rattle.aqe_script.specs.Statements.{IsStatement, is_semicolon, parts, parts_of, AreStatements, finished, nothing, statement}
 use Rattle.aqe_script.specs.Statements.IsStatement.{create as said_create, query as said_query}
-use Rattle.aqe_spell.specs.Texts.{text_of}
-use Rattle.aqe_spell.specs.Written.{AllSound, Adds, Spelled, SpelledWhole}
+use Rattle.aqe_phrases.specs.Texts.{text_of_all}
+use Rattle.aqe_phrases.specs.Written.{AllSound, Adds, Spelled}
+use Rattle.aqe_spell.specs.Clauses.{SpelledWhole}
 use Rattle.aqe_spell.specs.Tokens.{Gives, NoneParts, Writable, AllWritable, IsWhole, StatementText, Leads, ScriptText, HasScript, IsSpelling}
 use Rattle.aqe_spell.proofs.Cuts.{token_cut, blank_cut, text_at}
 use Rattle.aqe_spell.proofs.Sources.{terminals_stand, script_writable}
@@ -36,10 +37,10 @@ words_text : (x : Stmt) (words : List Terminal → List Terminal) (old new : Lis
 words_text x words old new a some f =
     let sound : AllSound (words []) = a.sound [] tt in
     record {
-      text = text_of (words []);
+      text = text_of_all (words []);
       added = sym (append-nil new) ∙ a.added [];
       is_text = words_utf8 (words []) sound;
-      gives = gives_as (text_of (words [])) (words_give (words []) sound) (λ source ts are. record {
+      gives = gives_as (text_of_all (words [])) (words_give (words []) sound) (λ source ts are. record {
         is_statement = f source ts are.are;
         some = subst (λ n. 0 < n) (sym (ap length are.are) ∙ length-map ts (terminal_of source)) some;
         none_parts = are.none_parts;

@@ -1,6 +1,6 @@
 -- The tokens of settings.
 use Rattle.std.proofs.Common.{ℕ, ◌≡◌, ◌+◌, Bool, true, false, List, [], ◌∷◌, ◌++◌, length, IsUtf8, refl, sym, subst, ap, ◌∙◌, append_assoc, append-nil, length-append, arith}
-use Rattle.std.specs.Prelude.{cond, find, nat_lt, Some, not, slice_index}
+use Rattle.std.specs.Prelude.{cond, find, nat_lt, Option, Some, None, not, slice_index}
 use Rattle.std.specs.List.{list_all}
 use Rattle.std.proofs.lemmas.Bool.{and_parts}
 use Rattle.std.proofs.lemmas.Bool.Decides.{nat_tests}
@@ -25,8 +25,8 @@ use Rattle.aqe_script.specs.Settings.IsSettingKey.{word as key_word, pointed as 
 use Rattle.aqe_script.specs.Settings.IsSet.{set as setting}
 use Rattle.aqe_script.specs.Statements.{IsStatement, parts}
 use Rattle.aqe_script.specs.Statements.IsStatement.{set as said_set}
-use Rattle.aqe_spell.specs.Texts.{literal_text, spaced}
-use Rattle.aqe_spell.specs.Written.{Adds}
+use Rattle.aqe_phrases.specs.Texts.{literal_text, spaced}
+use Rattle.aqe_phrases.specs.Written.{Adds}
 use Rattle.aqe_spell.specs.Tokens.{Gives, NoneParts, IsFine, AllFine, Writable, IsWhole, StatementText}
 use Rattle.aqe_spell.proofs.Cuts.{token_cut, text_at, past, word_begins}
 use Rattle.aqe_spell.proofs.WordTokens.{spaced_cut, spaced_at, key_gives}

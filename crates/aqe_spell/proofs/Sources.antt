@@ -27,7 +27,7 @@ use Rattle.aqe_trees.specs.declared.terminal.Key.{Key}
 use Rattle.aqe_trees.specs.declared.terminal.Terminal.{Terminal}
 use Rattle.aqe_script.specs.Terminals.{terminals_of, key_of_text, fixed_or, content_terminal}
 use Rattle.aqe_script.specs.Statements.{AreStatements, finished, nothing, statement, is_semicolon, parts_of}
-use Rattle.aqe_spell.specs.Written.{Stands, AllStand}
+use Rattle.aqe_phrases.specs.Written.{Stands, AllStand}
 use Rattle.aqe_spell.specs.Tokens.{IsFine, AllFine, AllWritable}
 
 symbol_no_word : (n len : ℕ) → piece.Cut kind.Word len ≡ symbol_of n → ⊥

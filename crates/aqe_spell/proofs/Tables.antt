@@ -8,12 +8,13 @@ use Rattle.aqe_trees.specs.declared.terminal.Terminal.TheVariants.{Fixed, Name, 
 use Rattle.aqe_trees.specs.Shapes.{table_form}
 use Rattle.aqe_trees.specs.Lists.{Commas, no_comma, Listed, listed}
 use Rattle.aqe_trees.specs.Tables.{IsColumn, column_of, IsOption, option_of, option_equal, IsPlace, location, options_location, location_options, IsCreate, create}
-use Rattle.aqe_spell.specs.Texts.{is_bare}
-use Rattle.aqe_spell.specs.Written.{AllStand, Adds, Spelled, Going, SpelledWhole, IsOptions, no_options, options, type_text}
-use Rattle.aqe_spell.proofs.Leaves.{adds_then, adds_none}
+use Rattle.aqe_phrases.specs.Texts.{is_bare}
+use Rattle.aqe_phrases.specs.Written.{AllStand, Adds, Spelled, Going, type_text}
+use Rattle.aqe_spell.specs.Clauses.{SpelledWhole, IsOptions, no_options, options}
+use Rattle.aqe_phrases.proofs.Leaves.{adds_then, adds_none}
 use Rattle.aqe_spell.proofs.LeftQuery.{left_listed}
 use Rattle.aqe_spell.proofs.Queries.{comma_step}
-use Rattle.aqe_spell.proofs.Expressions.{type_made}
+use Rattle.aqe_phrases.proofs.Expressions.{type_made}
 
 left_column : {pair : List ℕ × SqlType} {ts us : List Terminal} → IsColumn pair ts us → AllStand ts → AllStand us
 left_column (column_of e) s = s.1.1

@@ -6,8 +6,8 @@ use Rattle.aqe_lexer.specs.TokenList.{HasTokens}
 use Rattle.aqe_trees.specs.declared.terminal.Terminal.{Terminal}
 use Rattle.aqe_trees.specs.declared.terminal.Terminal.TheVariants.{Fixed, Name, Literal, Number, Mixed}
 use Rattle.aqe_script.specs.Terminals.{terminals_of}
-use Rattle.aqe_spell.specs.Texts.{is_bare, spaced, text_of}
-use Rattle.aqe_spell.specs.Written.{Sound, AllSound}
+use Rattle.aqe_phrases.specs.Texts.{is_bare, spaced, text_of_all}
+use Rattle.aqe_phrases.specs.Written.{Sound, AllSound}
 use Rattle.aqe_spell.specs.Tokens.{Gives, NoneParts}
 use Rattle.aqe_spell.proofs.Cuts.{past}
 use Rattle.aqe_spell.proofs.WordTokens.{IsOne, key_gives, name_gives}
@@ -59,10 +59,10 @@ terminal_gives (Literal text) s = literal_gives text
 terminal_gives (Number value long) s = number_gives value long s
 terminal_gives Mixed s = absurd s
 
-pub words_give : (words : List Terminal) → AllSound words → Gives (text_of words) (Are words)
+pub words_give : (words : List Terminal) → AllSound words → Gives (text_of_all words) (Are words)
 words_give [] s = gives_nothing (λ source. record { are = refl; none_parts = tt })
 words_give (t ∷ words) s =
-    gives_both (spaced t) (text_of words) (terminal_gives t s.0) (words_give words s.1)
+    gives_both (spaced t) (text_of_all words) (terminal_gives t s.0) (words_give words s.1)
     (λ source xs ys one all.
     subst (λ l. Are (t ∷ words) source (l ++ ys)) (sym one.alone) (record {
       are = rw (one.is, all.are) refl;

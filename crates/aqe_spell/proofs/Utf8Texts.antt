@@ -13,8 +13,8 @@ use Rattle.aqe_trees.specs.declared.terminal.Key.TheVariants as k
 use Rattle.aqe_trees.specs.declared.terminal.Terminal.{Terminal}
 use Rattle.aqe_trees.specs.declared.terminal.Terminal.TheVariants.{Fixed, Name, Literal, Number, Mixed}
 use Rattle.aqe_trees.specs.Keywords.{key_text}
-use Rattle.aqe_spell.specs.Texts.{doubled, escaped, name_text, literal_text, long_text, word_of, spaced, text_of}
-use Rattle.aqe_spell.specs.Written.{Sound, AllSound}
+use Rattle.aqe_phrases.specs.Texts.{doubled, escaped, name_text, literal_text, long_text, word_of, spaced, text_of_all}
+use Rattle.aqe_phrases.specs.Written.{Sound, AllSound}
 
 pub one_ascii : (b : ℕ) → b < 128 → IsUtf8 (b ∷ [])
 one_ascii b small = subst IsUtf8 (encode_ascii b small) (IsUtf8-encode b (low_scalar b (omega arith)))
@@ -176,7 +176,7 @@ word_utf8 (Literal text) s = literal_utf8 text s
 word_utf8 (Number value long) s = number_utf8 value long s
 word_utf8 Mixed s = absurd s
 
-pub words_utf8 : (words : List Terminal) → AllSound words → IsUtf8 (text_of words)
+pub words_utf8 : (words : List Terminal) → AllSound words → IsUtf8 (text_of_all words)
 words_utf8 [] s = IsUtf8-nil
 words_utf8 (t ∷ words) s =
-    IsUtf8-append (spaced t) (text_of words) (IsUtf8-append (word_of t) (32 ∷ []) (word_utf8 t s.0) (one_ascii 32 (omega arith))) (words_utf8 words s.1)
+    IsUtf8-append (spaced t) (text_of_all words) (IsUtf8-append (word_of t) (32 ∷ []) (word_utf8 t s.0) (one_ascii 32 (omega arith))) (words_utf8 words s.1)

@@ -1,5 +1,5 @@
 -- The tokens of reserved words, symbols and bare names.
-use Rattle.std.proofs.Common.{ℕ, ◌≡◌, ◌+◌, ◌||◌, ◌&&◌, Bool, true, false, List, [], ◌∷◌, ◌++◌, length, drop, refl, sym, subst, ap, ◌∙◌, append_assoc, length-append, arith}
+use Rattle.std.proofs.Common.{ℕ, ◌≡◌, ◌+◌, ◌&&◌, Bool, true, false, List, [], ◌∷◌, ◌++◌, length, drop, refl, sym, subst, ap, ◌∙◌, append_assoc, length-append, arith}
 use Rattle.std.specs.Prelude.{Option, Some, None, codes, not, slice_index}
 use Rattle.std.specs.Option.{is_some}
 use Rattle.std.specs.List.{list_all}
@@ -19,7 +19,7 @@ use Rattle.aqe_trees.specs.declared.terminal.Terminal.TheVariants.{Fixed, Name}
 use Rattle.aqe_trees.specs.Keywords.{key_text, word_key, symbol_key, is_reserved}
 use Rattle.aqe_script.specs.Terminals.{terminal_of, key_of, key_of_text, fixed_or, content_terminal}
 use Rattle.aqe_script.specs.Statements.{is_semicolon, parts}
-use Rattle.aqe_spell.specs.Texts.{is_bare}
+use Rattle.aqe_phrases.specs.Texts.{is_bare}
 use Rattle.aqe_spell.specs.Tokens.{Gives}
 use Rattle.aqe_spell.proofs.Cuts.{token_cut, blank_cut, text_at, word_begins}
 

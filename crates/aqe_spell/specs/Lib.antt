@@ -1,3 +1,2 @@
-pub mod Texts
-pub mod Written
+pub mod Clauses
 pub mod Tokens

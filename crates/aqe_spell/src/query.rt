@@ -3,10 +3,10 @@
 ghost use Rattle.std.specs.Prelude.{[], ◌∷◌, List, OnOk};
 ghost use Rattle.aqe_trees.specs.declared.query.JoinStep.{JoinStep};
 ghost use Rattle.aqe_trees.specs.Queries.{IsQuery, IsUnion, IsCore, IsSelect, IsFrom, IsJoined, IsJoinedRest, IsSource};
-ghost use Rattle.aqe_spell.specs.Written.{Spelled, Going};
+ghost use Rattle.aqe_phrases.specs.Written.{Spelled, Going};
 
 use crate::query_leaf::{alias, all, bound, clause, distinct, group, items, kind, order};
-use crate::word::{fixed, name};
+use aqe_phrases::word::{fixed, name};
 use aqe_script::parts::{joined_parts, query_parts, select_parts, step_parts, union_parts};
 use aqe_trees::{
     CoreTree, JoinStep, JoinedTree, Key, QueryTree, SelectTree, SourceTree, UnionTree,

@@ -6,11 +6,12 @@ ghost use Rattle.aqe_trees.specs.declared.terminal.Terminal.TheVariants.{Fixed};
 ghost use Rattle.aqe_trees.specs.declared.terminal.Key.TheVariants as k;
 ghost use Rattle.aqe_trees.specs.Lists.{IsAlias, IsBound, IsClause, Listed};
 ghost use Rattle.aqe_trees.specs.Queries.{IsItem, IsSort, IsOrder, IsGroup, IsKind};
-ghost use Rattle.aqe_spell.specs.Written.{Adds, Sound, Spelled, all_before, distinct_before, way_before, nulls_before};
+ghost use Rattle.aqe_phrases.specs.Written.{Adds, Sound, Spelled};
+ghost use Rattle.aqe_spell.specs.Clauses.{all_before, distinct_before, way_before, nulls_before};
 
-use crate::expression::or;
-use crate::word::{fixed, name, number, word};
 use aqe_base::JoinKind;
+use aqe_phrases::expression::or;
+use aqe_phrases::word::{fixed, name, number, word};
 use aqe_script::parts::sort_parts;
 use aqe_trees::{ItemTree, Key, OrTree, SortTree};
 use aqe_values::Text;

@@ -6,8 +6,8 @@ ghost use Rattle.aqe_spell.specs.Tokens.{Writable, AllWritable, StatementText, S
 
 use crate::query::query;
 use crate::table::table;
-use crate::word::{fixed, literal};
 use aqe_base::{Bytes, Memory};
+use aqe_phrases::word::{fixed, literal};
 use aqe_trees::{Key, Script, SetForm, Stmt};
 use std::alloc::{AllocError, Global};
 

@@ -3,10 +3,11 @@
 ghost use Rattle.std.specs.Prelude.{OnOk};
 ghost use Rattle.aqe_trees.specs.Lists.{Listed};
 ghost use Rattle.aqe_trees.specs.Tables.{IsColumn, IsOption, IsPlace, IsCreate};
-ghost use Rattle.aqe_spell.specs.Written.{Spelled, SpelledWhole, IsOptions};
+ghost use Rattle.aqe_phrases.specs.Written.{Spelled};
+ghost use Rattle.aqe_spell.specs.Clauses.{SpelledWhole, IsOptions};
 
-use crate::leaf::type_word;
-use crate::word::{fixed, literal, name, word};
+use aqe_phrases::leaf::type_word;
+use aqe_phrases::word::{fixed, literal, name, word};
 use aqe_trees::{Key, TableForm};
 use aqe_values::{SqlType, Text};
 use std::alloc::AllocError;

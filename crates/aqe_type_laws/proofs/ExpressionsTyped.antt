@@ -1,5 +1,5 @@
 -- Expressions over the columns of FROM have values of their types.
-use Rattle.std.proofs.Common.{◌≡◌, ℕ, suc, ◌+◌, List, [], ◌∷◌, ◌++◌, map, flat_map, length, Option, Some, None, Ok, arith, refl, sym, ap, subst, ◌∙◌}
+use Rattle.std.proofs.Common.{◌≡◌, ℕ, suc, ◌+◌, List, [], ◌∷◌, ◌++◌, map, flat_map, length, Option, Some, arith, refl, sym, ap, subst, ◌∙◌}
 use Rattle.std.specs.Prelude.{All}
 use Rattle.std.specs.List.{slice_get}
 use Rattle.std.proofs.lemmas.List.Elements.{All-nil, All-cons}
@@ -9,7 +9,6 @@ use Rattle.aqe_values.specs.declared.schema.Field.{Field}
 use Rattle.aqe_expr.specs.declared.expr.Expr.{Column}
 use Rattle.aqe_expr.specs.Meaning.{val}
 use Rattle.aqe_rules.specs.declared.names.Named.{Named}
-use Rattle.aqe_rules.specs.Expressions.{read}
 use Rattle.aqe_rules.specs.Sources.{Item, numbered, columns_from, columns_of, over}
 use Rattle.aqe_rules.proofs.Gives.{Gives}
 use Rattle.aqe_laws.proofs.Sources.{numbered-length}

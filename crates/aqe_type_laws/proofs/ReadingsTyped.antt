@@ -1,13 +1,12 @@
 -- The meaning of an expression at a place has values of its type, over rows that the place may be read over.
-use Rattle.std.proofs.Common.{◌≡◌, ℕ, ◌+◌, true, false, Bool, cond, ◌&&◌, List, [], ◌∷◌, ◌++◌, map, filter, flat_map, length, Option, Some, None, Ok, Err, option_map, codes, refl, sym, subst, ◌∙◌}
+use Rattle.std.proofs.Common.{ℕ, ◌+◌, false, cond, ◌&&◌, List, [], ◌∷◌, ◌++◌, map, filter, flat_map, length, Option, Some, None, Ok, Err, option_map, codes, sym, subst, ◌∙◌}
 use Rattle.std.specs.Prelude.{All}
-use Rattle.std.proofs.lemmas.List.Elements.{All-nil, All-cons, All-head, All-tail, All-append, All-map, All-filter, All-weaker}
+use Rattle.std.proofs.lemmas.List.Elements.{All-nil, All-cons, All-head, All-append, All-map, All-filter, All-weaker}
 use Rattle.aqe_base.specs.declared.status.AnalysisKind.TheVariants.{NoSuchColumn}
 use Rattle.aqe_values.specs.declared.value.Value.{Value}
 use Rattle.aqe_values.specs.declared.sql_type.SqlType.{SqlType}
 use Rattle.aqe_expr.specs.declared.expr.BinaryOp.TheVariants as binary
 use Rattle.aqe_expr.specs.declared.expr.Expr.{Column}
-use Rattle.aqe_expr.specs.Meaning.{val}
 use Rattle.aqe_logical.specs.declared.plan.AggFun.{AggFun}
 use Rattle.aqe_logical.specs.declared.plan.AggFun.TheVariants.{Count}
 use Rattle.aqe_trees.specs.declared.expression.OrTree.{OrTree}

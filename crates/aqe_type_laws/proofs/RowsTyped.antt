@@ -1,5 +1,5 @@
 -- Rows whose first values are of given types, and whose further values are those of aggregate calls.
-use Rattle.std.proofs.Common.{◌≡◌, ℕ, zero, suc, ◌+◌, Bool, true, false, cond, ◌&&◌, List, [], ◌∷◌, ◌++◌, map, fold, Option, Some, None, ℤ, refl, sym, subst, ap, ◌∙◌}
+use Rattle.std.proofs.Common.{◌≡◌, ℕ, zero, suc, ◌+◌, true, List, [], ◌∷◌, map, fold, Option, Some, None, ℤ, refl, sym, subst, ap, ◌∙◌}
 use Rattle.std.specs.Prelude.{All, slice_index_or, unwrap_or}
 use Rattle.std.specs.List.{slice_get}
 use Rattle.std.proofs.lemmas.List.Elements.{All-nil, All-cons, All-head, All-tail, All-map, All-weaker}
@@ -17,8 +17,7 @@ use Rattle.aqe_logical.specs.declared.plan.AggFun.TheVariants.{Count, Sum, Min, 
 use Rattle.aqe_logical.specs.Groups.{total_of, is_greater, first_of, ascending, descending, nothing, single, merged, folded, call_value}
 use Rattle.aqe_rules.specs.declared.typed.Typed.{Typed}
 use Rattle.aqe_rules.specs.Equality.{same_expr}
-use Rattle.aqe_rules.specs.declared.names.Named.{Named}
-use Rattle.aqe_rules.specs.Readings.{Call, same_fun, same_call, call_of, gives, takes}
+use Rattle.aqe_rules.specs.Readings.{Call, same_fun, same_call, call_of, gives}
 use Rattle.aqe_laws.proofs.OperationsBelow.{either_one}
 use Rattle.aqe_laws.proofs.Same as same
 use Rattle.aqe_type_laws.specs.Fits.{IsOf}

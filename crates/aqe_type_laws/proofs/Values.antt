@@ -1,6 +1,5 @@
 -- The values of operations are of the types that the operations give.
-use Rattle.std.proofs.Common.{◌≡◌, ℕ, ℤ, ◌+◌, Bool, true, false, cond, List, [], ◌∷◌, Option, Some, None, refl}
-use Rattle.std.specs.Prelude.{option_map, option_and_then}
+use Rattle.std.proofs.Common.{◌≡◌, ℤ, Bool, true, false, cond, Option, Some, None, refl}
 use Rattle.std.specs.Option.{option_map_or}
 use Rattle.aqe_values.specs.declared.value.Value.{Value}
 use Rattle.aqe_values.specs.declared.value.Value.TheVariants as value
@@ -8,7 +7,7 @@ use Rattle.aqe_values.specs.declared.sql_type.SqlType.{SqlType}
 use Rattle.aqe_values.specs.declared.sql_type.SqlType.TheVariants as sql
 use Rattle.aqe_expr.specs.Numbers.{arithmetic, negated, whole_quotient, int_value, bigint_value, on_numbers, quotient_of}
 use Rattle.aqe_expr.specs.Truths.{Truth, truth_value}
-use Rattle.aqe_expr.specs.Casts.{as_int, as_bigint, as_text, as_boolean, boolean_in, says_true, says_false, trimmed, character_count, in_range, fits_int, fits_bigint, number_in}
+use Rattle.aqe_expr.specs.Casts.{as_int, as_bigint, as_text, as_boolean, says_true, says_false, trimmed, character_count, in_range, fits_int, fits_bigint, number_in}
 use Rattle.aqe_expr.specs.Meaning.{like_value}
 use Rattle.aqe_rules.specs.Kinds.{is_number, is_same_kind, wider}
 use Rattle.aqe_type_laws.specs.Fits.{IsOf}
@@ -47,8 +46,8 @@ one_bigint : (n : Option ℤ) → IsOf (option_map_or (λ n. value.BigInt n) n v
 one_bigint None = tt
 one_bigint (Some n) = tt
 
-one_boolean : (yes no : Bool) → IsOf (cond yes (value.Boolean true) (cond no (value.Boolean false) value.Null)) sql.Boolean
-one_boolean true no = tt
+one_boolean : (b c : Bool) → IsOf (cond b (value.Boolean true) (cond c (value.Boolean false) value.Null)) sql.Boolean
+one_boolean true c = tt
 one_boolean false true = tt
 one_boolean false false = tt
 
@@ -85,27 +84,27 @@ like_fits value.Null value.Null = tt
 like_fits value.Null (value.Boolean y) = tt
 like_fits value.Null (value.Int y) = tt
 like_fits value.Null (value.BigInt y) = tt
-like_fits value.Null (value.Teyt y) = tt
+like_fits value.Null (value.Text y) = tt
 like_fits (value.Boolean x) value.Null = tt
 like_fits (value.Boolean x) (value.Boolean y) = tt
 like_fits (value.Boolean x) (value.Int y) = tt
 like_fits (value.Boolean x) (value.BigInt y) = tt
-like_fits (value.Boolean x) (value.Teyt y) = tt
+like_fits (value.Boolean x) (value.Text y) = tt
 like_fits (value.Int x) value.Null = tt
 like_fits (value.Int x) (value.Boolean y) = tt
 like_fits (value.Int x) (value.Int y) = tt
 like_fits (value.Int x) (value.BigInt y) = tt
-like_fits (value.Int x) (value.Teyt y) = tt
+like_fits (value.Int x) (value.Text y) = tt
 like_fits (value.BigInt x) value.Null = tt
 like_fits (value.BigInt x) (value.Boolean y) = tt
 like_fits (value.BigInt x) (value.Int y) = tt
 like_fits (value.BigInt x) (value.BigInt y) = tt
-like_fits (value.BigInt x) (value.Teyt y) = tt
+like_fits (value.BigInt x) (value.Text y) = tt
 like_fits (value.Text x) value.Null = tt
 like_fits (value.Text x) (value.Boolean y) = tt
 like_fits (value.Text x) (value.Int y) = tt
 like_fits (value.Text x) (value.BigInt y) = tt
-like_fits (value.Text x) (value.Teyt y) = tt
+like_fits (value.Text x) (value.Text y) = tt
 
 pub same_kind : (k j : SqlType) → is_same_kind k j ≡ true → k ≡ j
 same_kind sql.NullType sql.NullType e = refl
@@ -162,7 +161,7 @@ arithmetic_fits op value.Null value.Null k j h g e f = tt
 arithmetic_fits op value.Null (value.Boolean y) k j h g e f = tt
 arithmetic_fits op value.Null (value.Int y) k j h g e f = tt
 arithmetic_fits op value.Null (value.BigInt y) k j h g e f = tt
-arithmetic_fits op value.Null (value.Teyt y) k j h g e f = tt
+arithmetic_fits op value.Null (value.Text y) k j h g e f = tt
 arithmetic_fits op (value.Boolean x) w sql.NullType j h g e f = absurd h
 arithmetic_fits op (value.Boolean x) w sql.Boolean j h g e f = absurd (never e)
 arithmetic_fits op (value.Boolean x) w sql.Int j h g e f = absurd h
@@ -186,11 +185,11 @@ arithmetic_fits op (value.Int x) (value.BigInt y) sql.Int sql.Boolean h g e f = 
 arithmetic_fits op (value.Int x) (value.BigInt y) sql.Int sql.Int h g e f = absurd g
 arithmetic_fits op (value.Int x) (value.BigInt y) sql.Int sql.BigInt h g e f = bigint_fits (op x y)
 arithmetic_fits op (value.Int x) (value.BigInt y) sql.Int sql.Text h g e f = absurd g
-arithmetic_fits op (value.Int x) (value.Teyt y) sql.Int sql.NullType h g e f = absurd g
-arithmetic_fits op (value.Int x) (value.Teyt y) sql.Int sql.Boolean h g e f = absurd g
-arithmetic_fits op (value.Int x) (value.Teyt y) sql.Int sql.Int h g e f = absurd g
-arithmetic_fits op (value.Int x) (value.Teyt y) sql.Int sql.BigInt h g e f = absurd g
-arithmetic_fits op (value.Int x) (value.Teyt y) sql.Int sql.Text h g e f = absurd (never f)
+arithmetic_fits op (value.Int x) (value.Text y) sql.Int sql.NullType h g e f = absurd g
+arithmetic_fits op (value.Int x) (value.Text y) sql.Int sql.Boolean h g e f = absurd g
+arithmetic_fits op (value.Int x) (value.Text y) sql.Int sql.Int h g e f = absurd g
+arithmetic_fits op (value.Int x) (value.Text y) sql.Int sql.BigInt h g e f = absurd g
+arithmetic_fits op (value.Int x) (value.Text y) sql.Int sql.Text h g e f = absurd (never f)
 arithmetic_fits op (value.Int x) w sql.BigInt j h g e f = absurd h
 arithmetic_fits op (value.Int x) w sql.Text j h g e f = absurd h
 arithmetic_fits op (value.BigInt x) w sql.NullType j h g e f = absurd h
@@ -212,11 +211,11 @@ arithmetic_fits op (value.BigInt x) (value.BigInt y) sql.BigInt sql.Boolean h g 
 arithmetic_fits op (value.BigInt x) (value.BigInt y) sql.BigInt sql.Int h g e f = absurd g
 arithmetic_fits op (value.BigInt x) (value.BigInt y) sql.BigInt sql.BigInt h g e f = bigint_fits (op x y)
 arithmetic_fits op (value.BigInt x) (value.BigInt y) sql.BigInt sql.Text h g e f = absurd g
-arithmetic_fits op (value.BigInt x) (value.Teyt y) sql.BigInt sql.NullType h g e f = absurd g
-arithmetic_fits op (value.BigInt x) (value.Teyt y) sql.BigInt sql.Boolean h g e f = absurd g
-arithmetic_fits op (value.BigInt x) (value.Teyt y) sql.BigInt sql.Int h g e f = absurd g
-arithmetic_fits op (value.BigInt x) (value.Teyt y) sql.BigInt sql.BigInt h g e f = absurd g
-arithmetic_fits op (value.BigInt x) (value.Teyt y) sql.BigInt sql.Text h g e f = absurd (never f)
+arithmetic_fits op (value.BigInt x) (value.Text y) sql.BigInt sql.NullType h g e f = absurd g
+arithmetic_fits op (value.BigInt x) (value.Text y) sql.BigInt sql.Boolean h g e f = absurd g
+arithmetic_fits op (value.BigInt x) (value.Text y) sql.BigInt sql.Int h g e f = absurd g
+arithmetic_fits op (value.BigInt x) (value.Text y) sql.BigInt sql.BigInt h g e f = absurd g
+arithmetic_fits op (value.BigInt x) (value.Text y) sql.BigInt sql.Text h g e f = absurd (never f)
 arithmetic_fits op (value.BigInt x) w sql.Text j h g e f = absurd h
 arithmetic_fits op (value.Text x) w sql.NullType j h g e f = absurd h
 arithmetic_fits op (value.Text x) w sql.Boolean j h g e f = absurd h

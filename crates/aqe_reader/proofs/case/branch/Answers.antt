@@ -1,6 +1,6 @@
 use Rattle.std.proofs.lemmas.Result.{err_from_is_err_and}
 use Rattle.aqe_reader.proofs.Outcomes.{ok_of, err_of}
-use Rattle.aqe_reader.proofs.Cases.{arm_read, arm_cut, arm_empty, arm_refused}
+use Rattle.aqe_reader.proofs.Cases.{arm_read, arm_cut, arm_empty}
 use Rattle.aqe_reader.proofs.case.branch.Goals as goal
 
 pub returns-in_err-when-2 : goal.returns-in_err-when-2

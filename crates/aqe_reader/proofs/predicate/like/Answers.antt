@@ -1,5 +1,4 @@
 use Rattle.std.proofs.lemmas.Result.{err_from_is_err_and}
-use Rattle.aqe_reader.proofs.Outcomes.{ok_of, err_of}
 use Rattle.aqe_reader.proofs.Predicates.{like_read, like_refused}
 use Rattle.aqe_reader.proofs.predicate.like.Goals as goal
 

@@ -1,6 +1,6 @@
 use Rattle.std.proofs.Common.{sym}
 use Rattle.std.proofs.lemmas.List.{drop_all}
-use Rattle.aqe_spell.proofs.Chains.{going_begin, going_step, going_all}
+use Rattle.aqe_phrases.proofs.Chains.{going_begin, going_step, going_all}
 use Rattle.aqe_spell.proofs.Queries.{core_paren_spelled, core_select_spelled, no_from_spelled, from_step, from_spelled, joined_spelled, step_spelled, query_spelled, select_spelled, table_spelled, source_paren_spelled, union_step, union_spelled}
 use Rattle.aqe_spell.proofs.query.+query.Goals as goal
 

@@ -1,6 +1,6 @@
 use Rattle.std.proofs.Common.{drop}
 use Rattle.aqe_trees.specs.Queries.{IsUnionRest, IsFromRest, IsJoinedRest}
-use Rattle.aqe_spell.specs.Written.{Going}
+use Rattle.aqe_phrases.specs.Written.{Going}
 use Rattle.aqe_spell.proofs.query.+query.Given as goal
 
 abbrev pub invariant-union-more : goal.invariant-union-more

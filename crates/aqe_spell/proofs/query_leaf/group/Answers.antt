@@ -1,8 +1,8 @@
 use Rattle.std.proofs.Common.{sym}
 use Rattle.std.proofs.lemmas.List.{drop_all}
-use Rattle.aqe_spell.proofs.Chains.{going_begin, going_step, going_all}
+use Rattle.aqe_phrases.proofs.Chains.{going_begin, going_step, going_all}
 use Rattle.aqe_spell.proofs.Queries.{no_group_spelled, group_spelled}
-use Rattle.aqe_spell.proofs.Expressions.{list_step}
+use Rattle.aqe_phrases.proofs.Expressions.{list_step}
 use Rattle.aqe_spell.proofs.query_leaf.group.Goals as goal
 
 pub more-init : goal.more-init

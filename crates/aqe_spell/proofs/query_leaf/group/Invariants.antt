@@ -1,6 +1,6 @@
 use Rattle.std.proofs.Common.{drop}
 use Rattle.aqe_trees.specs.Expressions.{IsListRest}
-use Rattle.aqe_spell.specs.Written.{Going}
+use Rattle.aqe_phrases.specs.Written.{Going}
 use Rattle.aqe_spell.proofs.query_leaf.group.Given as goal
 
 abbrev pub invariant-more : goal.invariant-more

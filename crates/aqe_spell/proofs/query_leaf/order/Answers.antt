@@ -1,6 +1,6 @@
 use Rattle.std.proofs.Common.{sym}
 use Rattle.std.proofs.lemmas.List.{drop_all}
-use Rattle.aqe_spell.proofs.Chains.{going_begin, going_step, going_all}
+use Rattle.aqe_phrases.proofs.Chains.{going_begin, going_step, going_all}
 use Rattle.aqe_spell.proofs.Queries.{no_order_spelled, order_spelled, sort_step}
 use Rattle.aqe_spell.proofs.query_leaf.order.Goals as goal
 

@@ -1,5 +1,5 @@
 use Rattle.std.proofs.Common.{◌∷◌, ◌+◌, drop, sym, ap, ◌∙◌}
-use Rattle.aqe_spell.proofs.Leaves.{from_next}
+use Rattle.aqe_phrases.proofs.Leaves.{from_next}
 use Rattle.aqe_spell.proofs.Scripts.{reached_step}
 use Rattle.aqe_spell.proofs.statement.lines.Goals as goal
 

@@ -1,6 +1,6 @@
 use Rattle.std.proofs.Common.{sym}
 use Rattle.std.proofs.lemmas.List.{drop_all}
-use Rattle.aqe_spell.proofs.Chains.{going_begin, going_step, going_all}
+use Rattle.aqe_phrases.proofs.Chains.{going_begin, going_step, going_all}
 use Rattle.aqe_spell.proofs.Tables.{option_step, options_spelled}
 use Rattle.aqe_spell.proofs.table.options.Goals as goal
 

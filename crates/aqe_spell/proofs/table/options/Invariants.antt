@@ -1,7 +1,7 @@
 use Rattle.std.proofs.Common.{drop}
 use Rattle.aqe_trees.specs.Lists.{Commas}
 use Rattle.aqe_trees.specs.Tables.{IsOption}
-use Rattle.aqe_spell.specs.Written.{Going}
+use Rattle.aqe_phrases.specs.Written.{Going}
 use Rattle.aqe_spell.proofs.table.options.Given as goal
 
 abbrev pub invariant-more : goal.invariant-more

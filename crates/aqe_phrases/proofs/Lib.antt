@@ -1,0 +1,5 @@
+pub mod Left
+pub mod Taken
+pub mod Leaves
+pub mod Chains
+pub mod Expressions

@@ -1,5 +1,0 @@
-use Rattle.aqe_spell.proofs.Leaves.{table_column_spelled}
-use Rattle.aqe_spell.proofs.leaf.table_column.Goals as goal
-
-pub returns : goal.returns
-returns c = table_column_spelled c.in_ok-name.ensures c.in_ok-fixed.ensures c.in_ok-name-2.ensures
