@@ -20,7 +20,7 @@ use crate::form::FileForm;
 use crate::loaded::Table;
 use crate::records::{FileFail, read_rows};
 use aqe_base::{Bytes, Listing, Memory};
-use aqe_store::{Name, ReadFail, Store, read_all};
+use aqe_store::{Name, ReadBuffer, ReadFail, Store, read_with};
 use aqe_values::Rows;
 use std::alloc::Global;
 
@@ -49,6 +49,7 @@ fn is_plain(bytes: &[u8]) -> bool
 fn file_bytes<S: Store>(
     alloc: Global,
     store: &mut S,
+    buffer: &mut ReadBuffer,
     path: &str,
     name: &str,
 ) -> Result<Bytes, LoadFault>
@@ -60,7 +61,7 @@ fn file_bytes<S: Store>(
     ensures step { IsStep fault.ReadFault fault.Missing (S.files store.old) (S.files store.new) (S.faults store.old)
         (S.faults store.new) (S.misses store.old) (S.misses store.new) result }
 {
-    match read_all(alloc, store, path, FILE_LIMIT) {
+    match read_with(alloc, store, buffer, path, FILE_LIMIT) {
         Ok(bytes) => Ok(bytes),
         Err(ReadFail::Failed) => Err(LoadFault::ReadFault),
         Err(ReadFail::Missing) => Err(LoadFault::Missing),
@@ -118,6 +119,7 @@ fn checked_rows(
 fn read_file<S: Store>(
     alloc: Global,
     store: &mut S,
+    buffer: &mut ReadBuffer,
     table: &CatalogTable,
     name: &Name,
     before: u64,
@@ -134,7 +136,7 @@ fn read_file<S: Store>(
         (S.faults store.new) (S.misses store.old) (S.misses store.new) result }
 {
     let path = path_in(alloc, table.location.as_str(), name.as_str())?;
-    let bytes = file_bytes(alloc, store, path.as_str(), name.as_str())?;
+    let bytes = file_bytes(alloc, store, buffer, path.as_str(), name.as_str())?;
     let rows = checked_rows(alloc, &table.form, name, bytes.slice(), before)?;
     Ok(LoadedFile {
         rows,
@@ -146,6 +148,7 @@ fn read_file<S: Store>(
 fn read_files<S: Store>(
     alloc: Global,
     store: &mut S,
+    buffer: &mut ReadBuffer,
     table: &CatalogTable,
     names: &[Name],
     before: u64,
@@ -165,7 +168,7 @@ fn read_files<S: Store>(
     let mut files = Listing::new(alloc);
     let mut total = before;
     'files: for name in names {
-        let file = read_file(alloc, store, table, name, total)?;
+        let file = read_file(alloc, store, buffer, table, name, total)?;
         total += file.bytes;
         files.push(file.rows)?;
     }
@@ -204,7 +207,8 @@ pub(crate) fn read_table<S: Store>(
         (S.faults store.new) (S.misses store.old) (S.misses store.new) result }
 {
     let names = data_names(alloc, store, table.location.as_str())?;
-    let read = read_files(alloc, store, table, names.slice(), before)?;
+    let mut buffer = ReadBuffer::new(alloc)?;
+    let read = read_files(alloc, store, &mut buffer, table, names.slice(), before)?;
     let files = or_one_empty(alloc, read.files)?;
     Ok(Table {
         files,
