@@ -1,5 +1,6 @@
 -- A loop over the parts of a chain: what is read so far, for each way to go on.
-use Rattle.std.proofs.Common.{ℕ, List, [], ◌∷◌, ◌++◌, ◌≡◌, ◌<◌, length, refl, sym, ap, subst, arith}
+use Rattle.std.proofs.Common.{ℕ, List, [], ◌∷◌, ◌++◌, ◌≡◌, ◌<◌, length, refl, sym, ap, subst, arith, Result, Err}
+use Rattle.std.specs.Prelude.{IfErr}
 use Rattle.std.proofs.lemmas.List.{append-nil}
 use Rattle.std.proofs.Math.Seq.{append_snoc}
 use Rattle.aqe_trees.specs.declared.terminal.Key.TheVariants as k
@@ -11,6 +12,9 @@ use Rattle.aqe_reader.specs.Reading.{Read, Refuses}
 
 pub moved : {T : Type 0} (Is : T → List Terminal → List Terminal → Type 0) {t : T} {a b us : List Terminal} → a ≡ b → Is t b us → Is t a us
 moved Is {t = t} {us = us} e d = subst (λ (x : List Terminal). Is t x us) (sym e) d
+
+pub if_err_of : {A E : Type 0} (Q : E → Type 0) {r : Result A E} {d : E} → IfErr r Q → r ≡ Err d → Q d
+if_err_of {A = A} {E = E} Q m h = subst (λ (r : Result A E). IfErr r Q) h m
 
 -- ts begins with the whole that the further parts make, whichever they are
 pub record Chain {T X : Type 0} (Is : T → List Terminal → List Terminal → Type 0) (More : List X → List Terminal → List Terminal → Type 0)

@@ -111,13 +111,23 @@ pub nulls_word : (t : Terminal) (last : Bool) → nulls_of t ≡ Some last → (
 nulls_word (Name place false) last e = (place, refl)
 nulls_word _ last e = absurd (cc)
 
+no_nulls_here : {usual v : Bool} {after ws : List Terminal} →
+    ((last : Bool) (t : Terminal) (us : List Terminal) → nulls_of t ≡ Some last → after ≡ t ∷ us → ⊥) →
+    IsNulls usual v (Fixed k.Nulls ∷ after) ws → Stops 12 ws → ⊥
+no_nulls_here n usual_nulls s = omega arith
+no_nulls_here n (nulls f) s = n _ _ _ f refl
+
+nulls_refused : {usual : Bool} {ts after : List Terminal} → ts ≡ Fixed k.Nulls ∷ after →
+    ((last : Bool) (t : Terminal) (us : List Terminal) → nulls_of t ≡ Some last → after ≡ t ∷ us → ⊥) → Refuses (IsNulls usual) 12 ts
+nulls_refused e n = rw e (λ v ws d s. no_nulls_here n d s)
+
 pub no_nulls_word : {usual : Bool} {ts after : List Terminal} → ts ≡ Fixed k.Nulls ∷ after →
-    ((place : List ℕ) (us : List Terminal) → after ≡ Name place false ∷ us → ⊥) → Part (IsNulls usual) 12 ts usual ts
-no_nulls_word e n = no_nulls_read (λ last t us h f. let w = nulls_word t last h in n w.0 us (cc))
+    ((place : List ℕ) (us : List Terminal) → after ≡ Name place false ∷ us → ⊥) → Refuses (IsNulls usual) 12 ts
+no_nulls_word e n = nulls_refused e (λ last t us h f. let w = nulls_word t last h in n w.0 us (cc))
 
 pub no_nulls_place : {usual : Bool} {place : List ℕ} {ts after rest : List Terminal} → ts ≡ Fixed k.Nulls ∷ after → after ≡ Name place false ∷ rest →
-    is_word (codes "first") place ≡ false → is_word (codes "last") place ≡ false → Part (IsNulls usual) 12 ts usual ts
-no_nulls_place {place = place} e f g h = no_nulls_read (λ last t us i z.
+    is_word (codes "first") place ≡ false → is_word (codes "last") place ≡ false → Refuses (IsNulls usual) 12 ts
+no_nulls_place {place = place} e f g h = nulls_refused e (λ last t us i z.
     let same : t ≡ Name place false = cc in
     let none : nulls_of (Name place false) ≡ None = rw (g, h) refl in
     let at = ap nulls_of same in
@@ -152,13 +162,24 @@ bound_at {long = long} e f h = bound_read {long = long} (rw (e, f) refl) h
 pub no_bound_key : {key : Key} {ts : List Terminal} → ((us : List Terminal) → ts ≡ Fixed key ∷ us → ⊥) → Part (IsBound key) (key_binds key) ts None ts
 no_bound_key n = no_bound_read (λ value long us e h. n _ e)
 
+no_bound_here : {key other : Key} {v : Option ℕ} {after ws : List Terminal} → key ≡ other →
+    ((value : ℕ) (long : Bool) (us : List Terminal) → after ≡ Number value long ∷ us → value ≤ 9223372036854775807 → ⊥) →
+    IsBound key v (Fixed other ∷ after) ws → Stops (key_binds key) ws → ⊥
+no_bound_here e n no_bound s = let b = ap key_binds e in omega arith
+no_bound_here e n (bound h) s = n _ _ _ refl h
+
+bound_refused : {key : Key} {ts after : List Terminal} → ts ≡ Fixed key ∷ after →
+    ((value : ℕ) (long : Bool) (us : List Terminal) → after ≡ Number value long ∷ us → value ≤ 9223372036854775807 → ⊥) →
+    Refuses (IsBound key) (key_binds key) ts
+bound_refused e n = rw e (λ v ws d s. no_bound_here refl n d s)
+
 pub no_bound_number : {key : Key} {ts after : List Terminal} → ts ≡ Fixed key ∷ after →
-    ((value : ℕ) (long : Bool) (us : List Terminal) → after ≡ Number value long ∷ us → ⊥) → Part (IsBound key) (key_binds key) ts None ts
-no_bound_number e n = no_bound_read (λ value long us f h. n value long us (cc))
+    ((value : ℕ) (long : Bool) (us : List Terminal) → after ≡ Number value long ∷ us → ⊥) → Refuses (IsBound key) (key_binds key) ts
+no_bound_number e n = bound_refused e (λ value long us f h. n value long us f)
 
 pub bound_too_large : {key : Key} {value : ℕ} {long : Bool} {ts after rest : List Terminal} → ts ≡ Fixed key ∷ after →
-    after ≡ Number value long ∷ rest → 9223372036854775807 < value → Part (IsBound key) (key_binds key) ts None ts
-bound_too_large {value = value} e f h = no_bound_read (λ other long us g i. let same : value ≡ other = cc in omega arith)
+    after ≡ Number value long ∷ rest → 9223372036854775807 < value → Refuses (IsBound key) (key_binds key) ts
+bound_too_large {value = value} e f h = bound_refused e (λ other long us g i. let same : value ≡ other = cc in omega arith)
 
 -- aliases
 
@@ -197,9 +218,15 @@ pub no_as_read : {ts : List Terminal} → ((text : List ℕ) (quoted : Bool) (us
     ((us : List Terminal) → ts ≡ Fixed k.As ∷ us → ⊥) → Part IsAlias 12 ts None ts
 no_as_read m n = no_alias_read m (λ text quoted us e. n _ e)
 
-pub as_alone_read : {ts after : List Terminal} → ((text : List ℕ) (quoted : Bool) (us : List Terminal) → ts ≡ Name text quoted ∷ us → ⊥) →
-    ts ≡ Fixed k.As ∷ after → ((text : List ℕ) (quoted : Bool) (us : List Terminal) → after ≡ Name text quoted ∷ us → ⊥) → Part IsAlias 12 ts None ts
-as_alone_read m e n = no_alias_read m (λ text quoted us f. n text quoted us (cc))
+no_as_name : {v : Option (List ℕ)} {after ws : List Terminal} →
+    ((text : List ℕ) (quoted : Bool) (us : List Terminal) → after ≡ Name text quoted ∷ us → ⊥) →
+    IsAlias v (Fixed k.As ∷ after) ws → Stops 12 ws → ⊥
+no_as_name n no_alias s = omega arith
+no_as_name n as_alias s = n _ _ _ refl
+
+pub as_refused : {ts after : List Terminal} → ts ≡ Fixed k.As ∷ after →
+    ((text : List ℕ) (quoted : Bool) (us : List Terminal) → after ≡ Name text quoted ∷ us → ⊥) → Refuses IsAlias 12 ts
+as_refused e n = rw e (λ v ws d s. no_as_name n d s)
 
 -- clauses
 
@@ -290,6 +317,22 @@ pub item_refused : {ts : List Terminal} → ((us : List Terminal) → ts ≡ Fix
     Refuses IsOr 14 ts → Refuses IsItem 10 ts
 item_refused m n r v ws d s = no_item m n r d s
 
+no_item_alias : {x : OrTree} {v : ItemTree} {ts vs ws : List Terminal} →
+    ((us : List Terminal) → ts ≡ Fixed k.Star ∷ us → ⊥) →
+    ((table : List ℕ) (quoted : Bool) (us : List Terminal) → ts ≡ Name table quoted ∷ Fixed k.Dot ∷ Fixed k.Star ∷ us → ⊥) →
+    Read IsOr 14 ts x vs → Refuses IsAlias 12 vs → IsItem v ts ws → Stops 10 ws → ⊥
+no_item_alias m n r q all_columns s = m _ refl
+no_item_alias m n r q all_columns_of s = n _ _ _ refl
+no_item_alias {ws = ws} m n r q (one_column d a) s =
+    let up : Stops 12 ws = omega arith in
+    let o = r.only _ _ d (let b = alias_stop a up in omega arith) in
+    q _ _ (moved IsAlias o.1 a) up
+
+pub item_alias_refused : {x : OrTree} {ts vs : List Terminal} → ((us : List Terminal) → ts ≡ Fixed k.Star ∷ us → ⊥) →
+    ((table : List ℕ) (quoted : Bool) (us : List Terminal) → ts ≡ Name table quoted ∷ Fixed k.Dot ∷ Fixed k.Star ∷ us → ⊥) →
+    Read IsOr 14 ts x vs → Refuses IsAlias 12 vs → Refuses IsItem 10 ts
+item_alias_refused m n r q v ws d s = no_item_alias m n r q d s
+
 -- sorts
 
 way_stop : {a : Bool} {vs us : List Terminal} → IsWay a vs us → Stops 13 us → Stops 14 vs
@@ -329,6 +372,19 @@ no_sort {ws = ws} n (sort_of d a m) s = n _ _ d (way_stop a (nulls_stop m (let u
 pub sort_refused : {ts : List Terminal} → Refuses IsOr 14 ts → Refuses IsSort 10 ts
 sort_refused n v ws d s = no_sort n d s
 
+no_sort_nulls : {x : OrTree} {down : Bool} {v : SortTree} {ts ms bs ws : List Terminal} → Read IsOr 14 ts x ms → Part IsWay 13 ms down bs →
+    Refuses (IsNulls down) 12 bs → IsSort v ts ws → Stops 10 ws → ⊥
+no_sort_nulls {ws = ws} r p n (sort_of d a m) s =
+    let up : Stops 12 ws = omega arith in
+    let z = nulls_stop m up in
+    let o = r.only _ _ d (way_stop a z) in
+    let w = p.only _ _ (moved IsWay o.1 a) z in
+    n _ _ (at_nulls w.0 w.1 m) up
+
+pub sort_nulls_refused : {x : OrTree} {down : Bool} {ts ms bs : List Terminal} → Read IsOr 14 ts x ms → Part IsWay 13 ms down bs →
+    Refuses (IsNulls down) 12 bs → Refuses IsSort 10 ts
+sort_nulls_refused r p n v ws d s = no_sort_nulls r p n d s
+
 -- ORDER BY
 
 unordered_only : {v : List SortTree} {ts ws : List Terminal} → ((us : List Terminal) → ts ≡ Fixed k.Order ∷ Fixed k.By ∷ us → ⊥) →
@@ -336,17 +392,25 @@ unordered_only : {v : List SortTree} {ts ws : List Terminal} → ((us : List Ter
 unordered_only n unordered = (refl, refl)
 unordered_only n (ordered d) = absurd (n _ refl)
 
-pub unordered_read : {ts : List Terminal} → ((us : List Terminal) → ts ≡ Fixed k.Order ∷ Fixed k.By ∷ us → ⊥) → Part IsOrder 3 ts [] ts
-unordered_read n = record { found = unordered; only = λ v ws d s. unordered_only n d; within = omega arith }
+pub unordered_read : {ts : List Terminal} → ((us : List Terminal) → ts ≡ Fixed k.Order ∷ us → ⊥) → Part IsOrder 3 ts [] ts
+unordered_read n = record { found = unordered; only = λ v ws d s. unordered_only (λ us e. n _ e) d; within = omega arith }
+
+no_order_by : {v : List SortTree} {by ws : List Terminal} → ((us : List Terminal) → by ≡ Fixed k.By ∷ us → ⊥) →
+    IsOrder v (Fixed k.Order ∷ by) ws → Stops 3 ws → ⊥
+no_order_by n unordered s = omega arith
+no_order_by n (ordered d) s = n _ refl
+
+pub order_by_refused : {ts by : List Terminal} → ts ≡ Fixed k.Order ∷ by → ((us : List Terminal) → by ≡ Fixed k.By ∷ us → ⊥) → Refuses IsOrder 3 ts
+order_by_refused e n = rw e (λ v ws d s. no_order_by n d s)
 
 ordered_only : {x v : List SortTree} {after us ws : List Terminal} → Read (Listed IsSort) 9 after x us →
     IsOrder v (Fixed k.Order ∷ Fixed k.By ∷ after) ws → Stops 3 ws → (x ≡ v) × (us ≡ ws)
 ordered_only r unordered s = absurd (omega arith)
 ordered_only r (ordered d) s = r.only _ _ d (omega arith)
 
-pub ordered_read : {x : List SortTree} {ts after us : List Terminal} → ts ≡ Fixed k.Order ∷ Fixed k.By ∷ after →
+pub ordered_read : {x : List SortTree} {ts by after us : List Terminal} → ts ≡ Fixed k.Order ∷ by → by ≡ Fixed k.By ∷ after →
     Read (Listed IsSort) 9 after x us → Part IsOrder 3 ts x us
-ordered_read e r = rw e (record {
+ordered_read e f r = rw (e, f) (record {
   found = ordered r.found;
   only = λ v ws d s. ordered_only r d s;
   within = let a = r.shorter in omega arith;
@@ -357,9 +421,9 @@ no_sorts : {v : List SortTree} {after ws : List Terminal} → Refuses (Listed Is
 no_sorts n unordered s = omega arith
 no_sorts n (ordered d) s = n _ _ d (omega arith)
 
-pub order_refused : {ts after : List Terminal} → ts ≡ Fixed k.Order ∷ Fixed k.By ∷ after →
+pub order_refused : {ts by after : List Terminal} → ts ≡ Fixed k.Order ∷ by → by ≡ Fixed k.By ∷ after →
     Refuses (Listed IsSort) 9 after → Refuses IsOrder 3 ts
-order_refused e n = rw e (λ v ws d s. no_sorts n d s)
+order_refused e f n = rw (e, f) (λ v ws d s. no_sorts n d s)
 
 -- GROUP BY
 
@@ -368,17 +432,25 @@ ungrouped_only : {v : List OrTree} {ts ws : List Terminal} → ((us : List Termi
 ungrouped_only n ungrouped = (refl, refl)
 ungrouped_only n (grouped d) = absurd (n _ refl)
 
-pub ungrouped_read : {ts : List Terminal} → ((us : List Terminal) → ts ≡ Fixed k.Group ∷ Fixed k.By ∷ us → ⊥) → Part IsGroup 6 ts [] ts
-ungrouped_read n = record { found = ungrouped; only = λ v ws d s. ungrouped_only n d; within = omega arith }
+pub ungrouped_read : {ts : List Terminal} → ((us : List Terminal) → ts ≡ Fixed k.Group ∷ us → ⊥) → Part IsGroup 6 ts [] ts
+ungrouped_read n = record { found = ungrouped; only = λ v ws d s. ungrouped_only (λ us e. n _ e) d; within = omega arith }
+
+no_group_by : {v : List OrTree} {by ws : List Terminal} → ((us : List Terminal) → by ≡ Fixed k.By ∷ us → ⊥) →
+    IsGroup v (Fixed k.Group ∷ by) ws → Stops 6 ws → ⊥
+no_group_by n ungrouped s = omega arith
+no_group_by n (grouped d) s = n _ refl
+
+pub group_by_refused : {ts by : List Terminal} → ts ≡ Fixed k.Group ∷ by → ((us : List Terminal) → by ≡ Fixed k.By ∷ us → ⊥) → Refuses IsGroup 6 ts
+group_by_refused e n = rw e (λ v ws d s. no_group_by n d s)
 
 grouped_only : {x v : List OrTree} {after us ws : List Terminal} → Read IsList 9 after x us →
     IsGroup v (Fixed k.Group ∷ Fixed k.By ∷ after) ws → Stops 6 ws → (x ≡ v) × (us ≡ ws)
 grouped_only r ungrouped s = absurd (omega arith)
 grouped_only r (grouped d) s = r.only _ _ d (omega arith)
 
-pub grouped_read : {x : List OrTree} {ts after us : List Terminal} → ts ≡ Fixed k.Group ∷ Fixed k.By ∷ after →
+pub grouped_read : {x : List OrTree} {ts by after us : List Terminal} → ts ≡ Fixed k.Group ∷ by → by ≡ Fixed k.By ∷ after →
     Read IsList 9 after x us → Part IsGroup 6 ts x us
-grouped_read e r = rw e (record {
+grouped_read e f r = rw (e, f) (record {
   found = grouped r.found;
   only = λ v ws d s. grouped_only r d s;
   within = let a = r.shorter in omega arith;
@@ -389,6 +461,6 @@ no_keys : {v : List OrTree} {after ws : List Terminal} → Refuses IsList 9 afte
 no_keys n ungrouped s = omega arith
 no_keys n (grouped d) s = n _ _ d (omega arith)
 
-pub group_refused : {ts after : List Terminal} → ts ≡ Fixed k.Group ∷ Fixed k.By ∷ after →
+pub group_refused : {ts by after : List Terminal} → ts ≡ Fixed k.Group ∷ by → by ≡ Fixed k.By ∷ after →
     Refuses IsList 9 after → Refuses IsGroup 6 ts
-group_refused e n = rw e (λ v ws d s. no_keys n d s)
+group_refused e f n = rw (e, f) (λ v ws d s. no_keys n d s)

@@ -26,7 +26,7 @@ use Rattle.aqe_trees.specs.Queries.{IsItem, IsOrder, unordered, ordered, IsGroup
 use Rattle.aqe_trees.proofs.OneQuery.{clause_stop, bound_stop, items_begin, kind_binds, one_kind, joined_rest_stop, from_rest_stop, core_begin, union_rest_stop}
 use Rattle.aqe_reader.specs.Reading.{Read, Refuses, Part, Taken, Never, IsRefusal}
 use Rattle.aqe_reader.specs.declared.fault.ReadFault.{ReadFault}
-use Rattle.aqe_syntax.specs.Parts.{IsNested, IsTail, tail_of, IsConditions, conditions_of}
+use Rattle.aqe_syntax.specs.Parts.{IsNested, IsTail, tail_of, IsSelected, IsStep, step_of, IsConditions, conditions_of}
 use Rattle.aqe_syntax.proofs.Chain.{moved, Chain, Step, Ends, Stuck, chain_step, chain_done, chain_refused}
 
 order_stop : {a : List SortTree} {vs us : List Terminal} → IsOrder a vs us → Stops 3 us → Stops 4 vs
@@ -43,9 +43,9 @@ from_stop (from_of d r) s = lit< tt
 
 -- query
 
-tail_only : {b : UnionTree} {o : List SortTree} {l f : Option ℕ} {v : QueryTree} {ts vs ws us zs : List Terminal} →
+tail_only : {o : List SortTree} {l f : Option ℕ} {v : List SortTree × Option ℕ × Option ℕ} {ts vs ws us zs : List Terminal} →
     Part IsOrder 3 ts o vs → Part (IsBound k.Limit) 2 vs l ws → Part (IsBound k.Offset) 1 ws f us →
-    IsTail b v ts zs → Stops 1 zs → (query_tree b o l f ≡ v) × (us ≡ zs)
+    IsTail v ts zs → Stops 1 zs → ((o, l, f) ≡ v) × (us ≡ zs)
 tail_only p q n (tail_of e g h) s =
     let s1 = bound_stop h s in
     let s2 = bound_stop g s1 in
@@ -54,32 +54,59 @@ tail_only p q n (tail_of e g h) s =
     let z = n.only _ _ (moved (IsBound k.Offset) c.1 h) s in
     (cc, z.1)
 
-pub tail_read : {b : UnionTree} {o : List SortTree} {l f : Option ℕ} {ts vs ws us : List Terminal} →
-    Part IsOrder 3 ts o vs → Part (IsBound k.Limit) 2 vs l ws → Part (IsBound k.Offset) 1 ws f us →
-    Part (IsTail b) 1 ts (query_tree b o l f) us
+pub tail_read : {o : List SortTree} {l f : Option ℕ} {ts vs ws us : List Terminal} →
+    Part IsOrder 3 ts o vs → Part (IsBound k.Limit) 2 vs l ws → Part (IsBound k.Offset) 1 ws f us → Part IsTail 1 ts (o, l, f) us
 tail_read p q n = record {
   found = tail_of p.found q.found n.found;
   only = λ v ws d s. tail_only p q n d s;
   within = let a = p.within in let b = q.within in let c = n.within in omega arith;
 }
 
-no_tail : {b : UnionTree} {v : QueryTree} {ts zs : List Terminal} → Refuses IsOrder 3 ts → IsTail b v ts zs → Stops 1 zs → ⊥
+no_tail : {v : List SortTree × Option ℕ × Option ℕ} {ts zs : List Terminal} → Refuses IsOrder 3 ts → IsTail v ts zs → Stops 1 zs → ⊥
 no_tail n (tail_of e g h) s = n _ _ e (bound_stop g (bound_stop h s))
 
-pub tail_refused : {b : UnionTree} {ts : List Terminal} → Refuses IsOrder 3 ts → Refuses (IsTail b) 1 ts
+pub tail_refused : {ts : List Terminal} → Refuses IsOrder 3 ts → Refuses IsTail 1 ts
 tail_refused n v ws d s = no_tail n d s
 
-whole : {b : UnionTree} {t : QueryTree} {ts us xs : List Terminal} → IsUnion b ts us → IsTail b t us xs → IsQuery t ts xs
+no_limit : {o : List SortTree} {v : List SortTree × Option ℕ × Option ℕ} {ts vs zs : List Terminal} → Part IsOrder 3 ts o vs →
+    Refuses (IsBound k.Limit) 2 vs → IsTail v ts zs → Stops 1 zs → ⊥
+no_limit p n (tail_of e g h) s =
+    let s1 = bound_stop h s in
+    let b = p.only _ _ e (bound_stop g s1) in
+    n _ _ (moved (IsBound k.Limit) b.1 g) s1
+
+pub limit_refused : {o : List SortTree} {ts vs : List Terminal} → Part IsOrder 3 ts o vs → Refuses (IsBound k.Limit) 2 vs → Refuses IsTail 1 ts
+limit_refused p n v ws d s = no_limit p n d s
+
+no_offset : {o : List SortTree} {l : Option ℕ} {v : List SortTree × Option ℕ × Option ℕ} {ts vs ws zs : List Terminal} → Part IsOrder 3 ts o vs →
+    Part (IsBound k.Limit) 2 vs l ws → Refuses (IsBound k.Offset) 1 ws → IsTail v ts zs → Stops 1 zs → ⊥
+no_offset p q n (tail_of e g h) s =
+    let s1 = bound_stop h s in
+    let b = p.only _ _ e (bound_stop g s1) in
+    let c = q.only _ _ (moved (IsBound k.Limit) b.1 g) s1 in
+    n _ _ (moved (IsBound k.Offset) c.1 h) s
+
+pub offset_refused : {o : List SortTree} {l : Option ℕ} {ts vs ws : List Terminal} → Part IsOrder 3 ts o vs → Part (IsBound k.Limit) 2 vs l ws →
+    Refuses (IsBound k.Offset) 1 ws → Refuses IsTail 1 ts
+offset_refused p q n v ws d s = no_offset p q n d s
+
+-- the query of a body and its tail
+abbrev pub of_tail : UnionTree → List SortTree × Option ℕ × Option ℕ → QueryTree
+of_tail b t = query_tree b t.0 t.1 t.2
+
+whole : {b : UnionTree} {t : List SortTree × Option ℕ × Option ℕ} {ts us xs : List Terminal} → IsUnion b ts us → IsTail t us xs →
+    IsQuery (of_tail b t) ts xs
 whole d (tail_of e g h) = query_of d e g h
 
-query_only : {b : UnionTree} {t v : QueryTree} {ts us xs zs : List Terminal} → Read IsUnion 4 ts b us → Part (IsTail b) 1 us t xs →
-    IsQuery v ts zs → Stops 1 zs → (t ≡ v) × (xs ≡ zs)
+query_only : {b : UnionTree} {t : List SortTree × Option ℕ × Option ℕ} {v : QueryTree} {ts us xs zs : List Terminal} → Read IsUnion 4 ts b us →
+    Part IsTail 1 us t xs → IsQuery v ts zs → Stops 1 zs → (of_tail b t ≡ v) × (xs ≡ zs)
 query_only r p (query_of d e g h) s =
     let a = r.only _ _ d (order_stop e (bound_stop g (bound_stop h s))) in
     let z = p.only _ _ (tail_of (moved IsOrder a.1 e) g h) s in
     (cc, z.1)
 
-query_read : {b : UnionTree} {t : QueryTree} {ts us xs : List Terminal} → Read IsUnion 4 ts b us → Part (IsTail b) 1 us t xs → Read IsQuery 1 ts t xs
+pub query_read : {b : UnionTree} {t : List SortTree × Option ℕ × Option ℕ} {ts us xs : List Terminal} → Read IsUnion 4 ts b us →
+    Part IsTail 1 us t xs → Read IsQuery 1 ts (of_tail b t) xs
 query_read r p = record {
   found = whole r.found p.found;
   only = λ v ws d s. query_only r p d s;
@@ -92,18 +119,14 @@ no_body n (query_of d e g h) s = n _ _ d (order_stop e (bound_stop g (bound_stop
 pub query_refused : {ts : List Terminal} → Refuses IsUnion 4 ts → Refuses IsQuery 1 ts
 query_refused n v ws d s = no_body n d s
 
-no_query_tail : {b : UnionTree} {v : QueryTree} {ts us zs : List Terminal} → Read IsUnion 4 ts b us → Refuses (IsTail b) 1 us →
+no_query_tail : {b : UnionTree} {v : QueryTree} {ts us zs : List Terminal} → Read IsUnion 4 ts b us → Refuses IsTail 1 us →
     IsQuery v ts zs → Stops 1 zs → ⊥
 no_query_tail r n (query_of d e g h) s =
     let a = r.only _ _ d (order_stop e (bound_stop g (bound_stop h s))) in
     n _ _ (tail_of (moved IsOrder a.1 e) g h) s
 
--- what the reader of the tail answers is what that of the query does
-pub query_answer : {b : UnionTree} {ts us : List Terminal} (r : Result (QueryTree × Bor (List Terminal)) ReadFault) → Read IsUnion 4 ts b us →
-    MatchResult r (λ x. Part (IsTail b) 1 us x.0 x.1.now) (λ e. IsRefusal e → Refuses (IsTail b) 1 us) →
-    MatchResult r (λ x. Read IsQuery 1 ts x.0 x.1.now) (λ e. IsRefusal e → Refuses IsQuery 1 ts)
-query_answer (Ok x) r p = query_read r p
-query_answer (Err e) r n = λ f v ws d s. no_query_tail r (n f) d s
+pub query_tail_refused : {b : UnionTree} {ts us : List Terminal} → Read IsUnion 4 ts b us → Refuses IsTail 1 us → Refuses IsQuery 1 ts
+query_tail_refused r n v ws d s = no_query_tail r n d s
 
 -- a query behind its parenthesis
 
@@ -141,23 +164,18 @@ no_paren_core n (core_paren d) = n _ _ d
 pub paren_core_refused : {ts after : List Terminal} → ts ≡ Fixed k.Open ∷ after → Never IsNested after → Refuses IsCore 5 ts
 paren_core_refused e n = rw e (λ v ws d s. no_paren_core n d)
 
-select_core_only : {x : SelectTree} {v : CoreTree} {after us ws : List Terminal} → Read IsSelect 5 after x us →
-    IsCore v (Fixed k.Select ∷ after) ws → Stops 5 ws → (core.Select x ≡ v) × (us ≡ ws)
-select_core_only r (core_select d) s = let o = r.only _ _ d s in (cc, o.1)
+selected_shorter : {x : CoreTree} {ts after us : List Terminal} → ts ≡ Fixed k.Select ∷ after → Read IsSelected 5 after x us → Read IsCore 5 ts x us
+selected_shorter e r = rw e (record { found = r.found; only = r.only; shorter = let a = r.shorter in omega arith })
 
-pub select_core_read : {x : SelectTree} {ts after us : List Terminal} → ts ≡ Fixed k.Select ∷ after → Read IsSelect 5 after x us →
-    Read IsCore 5 ts (core.Select x) us
-select_core_read e r = rw e (record {
-  found = core_select r.found;
-  only = λ v ws d s. select_core_only r d s;
-  shorter = let a = r.shorter in omega arith;
-})
+no_selected : {ts after : List Terminal} → ts ≡ Fixed k.Select ∷ after → Refuses IsSelected 5 after → Refuses IsCore 5 ts
+no_selected e n = rw e n
 
-no_select_core : {v : CoreTree} {after ws : List Terminal} → Refuses IsSelect 5 after → IsCore v (Fixed k.Select ∷ after) ws → Stops 5 ws → ⊥
-no_select_core n (core_select d) s = n _ _ d s
-
-pub select_core_refused : {ts after : List Terminal} → ts ≡ Fixed k.Select ∷ after → Refuses IsSelect 5 after → Refuses IsCore 5 ts
-select_core_refused e n = rw e (λ v ws d s. no_select_core n d s)
+-- what the reader behind SELECT answers is what that of the core does
+pub selected_answer : {ts after : List Terminal} (r : Result (CoreTree × Bor (List Terminal)) ReadFault) → ts ≡ Fixed k.Select ∷ after →
+    MatchResult r (λ x. Read IsSelected 5 after x.0 x.1.now) (λ e. IsRefusal e → Refuses IsSelected 5 after) →
+    MatchResult r (λ x. Read IsCore 5 ts x.0 x.1.now) (λ e. IsRefusal e → Refuses IsCore 5 ts)
+selected_answer (Ok x) e r = selected_shorter e r
+selected_answer (Err f) e n = λ g. no_selected e (n g)
 
 no_core : {v : CoreTree} {ts ws : List Terminal} → ((us : List Terminal) → ts ≡ Fixed k.Open ∷ us → ⊥) →
     ((us : List Terminal) → ts ≡ Fixed k.Select ∷ us → ⊥) → IsCore v ts ws → ⊥
@@ -197,6 +215,22 @@ paren_source_read e r p = rw e (record {
   only = λ v ws d s. paren_source_only r p d s;
   shorter = let a = r.shorter in let b = p.within in omega arith;
 })
+
+no_table_alias : {name : List ℕ} {quoted : Bool} {v : SourceTree} {rest ws : List Terminal} → Refuses IsAlias 12 rest →
+    IsSource v (Name name quoted ∷ rest) ws → Stops 12 ws → ⊥
+no_table_alias n (table a) s = n _ _ a s
+
+pub table_alias_refused : {name : List ℕ} {quoted : Bool} {ts rest : List Terminal} → ts ≡ Name name quoted ∷ rest → Refuses IsAlias 12 rest →
+    Refuses IsSource 12 ts
+table_alias_refused e n = rw e (λ v ws d s. no_table_alias n d s)
+
+no_paren_alias : {q : QueryTree} {v : SourceTree} {after rest ws : List Terminal} → Taken IsNested after q rest → Refuses IsAlias 12 rest →
+    IsSource v (Fixed k.Open ∷ after) ws → Stops 12 ws → ⊥
+no_paren_alias r n (source_paren d a) s = let o = r.only _ _ d in n _ _ (moved IsAlias o.1 a) s
+
+pub paren_alias_refused : {q : QueryTree} {ts after rest : List Terminal} → ts ≡ Fixed k.Open ∷ after → Taken IsNested after q rest →
+    Refuses IsAlias 12 rest → Refuses IsSource 12 ts
+paren_alias_refused e r n = rw e (λ v ws d s. no_paren_alias r n d s)
 
 no_paren_source : {v : SourceTree} {after ws : List Terminal} → Never IsNested after → IsSource v (Fixed k.Open ∷ after) ws → ⊥
 no_paren_source n (source_paren d a) = n _ _ d
@@ -253,31 +287,65 @@ pub joined_begin : {x : SourceTree} {steps : List JoinStep} {ts rest : List Term
     JoinedSoFar x steps ts rest
 joined_begin r e = rw e (joined_first r)
 
-join_uncons : {kind : JoinKind} {x : SourceTree} {on : Option OrTree} {zs : List JoinStep} {rest after vs left us : List Terminal} →
-    IsKind kind rest after → Read IsSource 12 after x vs → Part (IsClause k.On) 11 vs on left → IsJoinedRest zs rest us → Stops 10 us →
-    (ys : List JoinStep) × (zs ≡ join_step kind x on ∷ ys) × IsJoinedRest ys left us
-join_uncons j r p joined_end s = let b = kind_binds j in absurd (omega arith)
-join_uncons j r p (joined_more {rest = ys} a d f q) s =
-    let o = one_kind j a in
-    let z = joined_rest_stop q s in
-    let n = r.only _ _ (moved IsSource o.1 d) (clause_stop f z) in
-    let c = p.only _ _ (moved (IsClause k.On) n.1 f) z in
-    (ys, cc, moved IsJoinedRest c.1 q)
+-- a source and its condition, behind JOIN
+step_only : {kind : JoinKind} {x : SourceTree} {on : Option OrTree} {v : JoinStep} {ts vs us ws : List Terminal} → Read IsSource 12 ts x vs →
+    Part (IsClause k.On) 11 vs on us → IsStep kind v ts ws → Stops 11 ws → (join_step kind x on ≡ v) × (us ≡ ws)
+step_only r p (step_of d f) s =
+    let n = r.only _ _ d (clause_stop f s) in
+    let c = p.only _ _ (moved (IsClause k.On) n.1 f) s in
+    (cc, c.1)
 
-join_read : {kind : JoinKind} {x : SourceTree} {on : Option OrTree} {rest after vs left : List Terminal} →
-    IsKind kind rest after → Read IsSource 12 after x vs → Part (IsClause k.On) 11 vs on left →
-    Step IsJoinedRest 10 (join_step kind x on) rest left
-join_read j r p = record {
-  cons = λ ys us d. joined_more j r.found p.found d;
-  uncons = λ zs us d s. join_uncons j r p d s;
-  less = let a = kind_shorter j in let b = r.shorter in let c = p.within in omega arith;
+pub step_read : {kind : JoinKind} {x : SourceTree} {on : Option OrTree} {ts vs us : List Terminal} → Read IsSource 12 ts x vs →
+    Part (IsClause k.On) 11 vs on us → Read (IsStep kind) 11 ts (join_step kind x on) us
+step_read r p = record {
+  found = step_of r.found p.found;
+  only = λ v ws d s. step_only r p d s;
+  shorter = let b = r.shorter in let c = p.within in omega arith;
 }
 
-pub joined_step : {kind : JoinKind} {first x : SourceTree} {on : Option OrTree} {steps next : List JoinStep} {ts rest after vs left : List Terminal} →
-    JoinedSoFar first steps ts rest → IsKind kind rest after → Read IsSource 12 after x vs → Part (IsClause k.On) 11 vs on left →
-    next ≡ steps ++ join_step kind x on ∷ [] → JoinedSoFar first next ts left
-joined_step {kind = kind} {x = x} {on = on} {steps = steps} c j r p e =
-    record { chain = chain_step c.chain (join_read j r p) (λ ys. rw e (rw (append_snoc steps (join_step kind x on) ys))) }
+no_step_source : {kind : JoinKind} {v : JoinStep} {ts ws : List Terminal} → Refuses IsSource 12 ts → IsStep kind v ts ws → Stops 11 ws → ⊥
+no_step_source n (step_of d f) s = n _ _ d (clause_stop f s)
+
+pub step_source_refused : {kind : JoinKind} {ts : List Terminal} → Refuses IsSource 12 ts → Refuses (IsStep kind) 11 ts
+step_source_refused n v ws d s = no_step_source n d s
+
+no_step_on : {kind : JoinKind} {x : SourceTree} {v : JoinStep} {ts vs ws : List Terminal} → Read IsSource 12 ts x vs →
+    Refuses (IsClause k.On) 11 vs → IsStep kind v ts ws → Stops 11 ws → ⊥
+no_step_on r n (step_of d f) s = let m = r.only _ _ d (clause_stop f s) in n _ _ (moved (IsClause k.On) m.1 f) s
+
+pub step_on_refused : {kind : JoinKind} {x : SourceTree} {ts vs : List Terminal} → Read IsSource 12 ts x vs → Refuses (IsClause k.On) 11 vs →
+    Refuses (IsStep kind) 11 ts
+step_on_refused r n v ws d s = no_step_on r n d s
+
+at_step : {kind other : JoinKind} {v : JoinStep} {a b us : List Terminal} → kind ≡ other → a ≡ b → IsStep other v b us → IsStep kind v a us
+at_step e f d = rw (e, f) d
+
+join_found : {kind : JoinKind} {x : JoinStep} {ys : List JoinStep} {rest after left us : List Terminal} → IsKind kind rest after →
+    IsStep kind x after left → IsJoinedRest ys left us → IsJoinedRest (x ∷ ys) rest us
+join_found j (step_of d f) q = joined_more j d f q
+
+join_uncons : {kind : JoinKind} {x : JoinStep} {zs : List JoinStep} {rest after left us : List Terminal} →
+    IsKind kind rest after → Read (IsStep kind) 11 after x left → IsJoinedRest zs rest us → Stops 10 us →
+    (ys : List JoinStep) × (zs ≡ x ∷ ys) × IsJoinedRest ys left us
+join_uncons j r joined_end s = let b = kind_binds j in absurd (omega arith)
+join_uncons j r (joined_more {rest = ys} a d f q) s =
+    let o = one_kind j a in
+    let n = r.only _ _ (at_step o.0 o.1 (step_of d f)) (joined_rest_stop q s) in
+    (ys, cc, moved IsJoinedRest n.1 q)
+
+join_read : {kind : JoinKind} {x : JoinStep} {rest after left : List Terminal} →
+    IsKind kind rest after → Read (IsStep kind) 11 after x left → Step IsJoinedRest 10 x rest left
+join_read j r = record {
+  cons = λ ys us d. join_found j r.found d;
+  uncons = λ zs us d s. join_uncons j r d s;
+  less = let a = kind_shorter j in let b = r.shorter in omega arith;
+}
+
+pub joined_step : {kind : JoinKind} {first : SourceTree} {x : JoinStep} {steps next : List JoinStep} {ts rest after left : List Terminal} →
+    JoinedSoFar first steps ts rest → IsKind kind rest after → Read (IsStep kind) 11 after x left →
+    next ≡ steps ++ x ∷ [] → JoinedSoFar first next ts left
+joined_step {x = x} {steps = steps} c j r e =
+    record { chain = chain_step c.chain (join_read j r) (λ ys. rw e (rw (append_snoc steps x ys))) }
 
 no_join : {zs : List JoinStep} {rest us : List Terminal} → ((a : JoinKind) (vs : List Terminal) → IsKind a rest vs → ⊥) →
     IsJoinedRest zs rest us → (zs ≡ []) × (us ≡ rest)
@@ -295,30 +363,26 @@ no_first_source n (joined_of d q) s = n _ _ d (let b = joined_rest_stop q s in o
 pub joined_refused : {ts : List Terminal} → Refuses IsSource 12 ts → Refuses IsJoined 10 ts
 joined_refused n v ws d s = no_first_source n d s
 
-no_next_source : {kind : JoinKind} {zs : List JoinStep} {rest after us : List Terminal} → IsKind kind rest after → Refuses IsSource 12 after →
+no_next_step : {kind : JoinKind} {zs : List JoinStep} {rest after us : List Terminal} → IsKind kind rest after → Refuses (IsStep kind) 11 after →
     IsJoinedRest zs rest us → Stops 10 us → ⊥
-no_next_source j n joined_end s = let b = kind_binds j in omega arith
-no_next_source j n (joined_more a d f q) s =
+no_next_step j n joined_end s = let b = kind_binds j in omega arith
+no_next_step j n (joined_more a d f q) s =
     let o = one_kind j a in
-    n _ _ (moved IsSource o.1 d) (clause_stop f (joined_rest_stop q s))
+    n _ _ (at_step o.0 o.1 (step_of d f)) (joined_rest_stop q s)
 
-pub join_source_refused : {kind : JoinKind} {first : SourceTree} {steps : List JoinStep} {ts rest after : List Terminal} →
-    JoinedSoFar first steps ts rest → IsKind kind rest after → Refuses IsSource 12 after → Refuses IsJoined 10 ts
-join_source_refused c j n = chain_refused c.chain (λ ys us d s. no_next_source j n d s)
+pub join_step_refused : {kind : JoinKind} {first : SourceTree} {steps : List JoinStep} {ts rest after : List Terminal} →
+    JoinedSoFar first steps ts rest → IsKind kind rest after → Refuses (IsStep kind) 11 after → Refuses IsJoined 10 ts
+join_step_refused c j n = chain_refused c.chain (λ ys us d s. no_next_step j n d s)
 
-no_condition : {kind : JoinKind} {x : SourceTree} {zs : List JoinStep} {rest after vs us : List Terminal} → IsKind kind rest after →
-    Read IsSource 12 after x vs → Refuses (IsClause k.On) 11 vs → IsJoinedRest zs rest us → Stops 10 us → ⊥
-no_condition j r n joined_end s = let b = kind_binds j in omega arith
-no_condition j r n (joined_more a d f q) s =
-    let o = one_kind j a in
-    let z = joined_rest_stop q s in
-    let m = r.only _ _ (moved IsSource o.1 d) (clause_stop f z) in
-    n _ _ (moved (IsClause k.On) m.1 f) z
+-- a kind of join begins, and its JOIN is wanting
+no_kind_here : {zs : List JoinStep} {rest us : List Terminal} → ((a : JoinKind) (vs : List Terminal) → IsKind a rest vs → ⊥) → binds_at rest ≡ 10 →
+    IsJoinedRest zs rest us → Stops 10 us → ⊥
+no_kind_here n b joined_end s = omega arith
+no_kind_here n b (joined_more a d f q) s = n _ _ a
 
-pub join_on_refused : {kind : JoinKind} {first x : SourceTree} {steps : List JoinStep} {ts rest after vs : List Terminal} →
-    JoinedSoFar first steps ts rest → IsKind kind rest after → Read IsSource 12 after x vs → Refuses (IsClause k.On) 11 vs →
-    Refuses IsJoined 10 ts
-join_on_refused c j r n = chain_refused c.chain (λ ys us d s. no_condition j r n d s)
+pub join_kind_refused : {first : SourceTree} {steps : List JoinStep} {ts rest : List Terminal} → JoinedSoFar first steps ts rest →
+    ((a : JoinKind) (vs : List Terminal) → IsKind a rest vs → ⊥) → binds_at rest ≡ 10 → Refuses IsJoined 10 ts
+join_kind_refused c n b = chain_refused c.chain (λ ys us d s. no_kind_here n b d s)
 
 -- union
 
@@ -583,6 +647,10 @@ joined_parts : {once : Bool} {items : List ItemTree} {from : List JoinedTree} {f
     IsConditions (filter, group, having) xs us → IsSelect (select_tree once items from filter group having) ts us
 joined_parts a b c (conditions_of d e f) = select_of a b c d e f
 
+-- a SELECT of its parts, as a core
+abbrev pub of_parts : Bool → List ItemTree → List JoinedTree → Option OrTree × List OrTree × Option OrTree → CoreTree
+of_parts once items from parts = core.Select (select_tree once items from parts.0 parts.1 parts.2)
+
 select_only : {once : Bool} {items : List ItemTree} {from : List JoinedTree} {filter having : Option OrTree} {group : List OrTree}
     {v : SelectTree} {ts vs ws xs us zs : List Terminal} →
     Part (IsDistinct false) 21 ts once vs → Read (Listed IsItem) 9 vs items ws → Part IsFrom 8 ws from xs →
@@ -599,42 +667,55 @@ select_only a b c n (select_of a1 b1 c1 d1 e1 f1) s =
     let h = ap (λ x. x.2) w.0 in
     (cc, w.1)
 
-pub select_read : {once : Bool} {items : List ItemTree} {from : List JoinedTree} {filter having : Option OrTree} {group : List OrTree}
+selected_only : {once : Bool} {items : List ItemTree} {from : List JoinedTree} {filter having : Option OrTree} {group : List OrTree}
+    {v : CoreTree} {ts vs ws xs us zs : List Terminal} →
+    Part (IsDistinct false) 21 ts once vs → Read (Listed IsItem) 9 vs items ws → Part IsFrom 8 ws from xs →
+    Part IsConditions 5 xs (filter, group, having) us → IsCore v (Fixed k.Select ∷ ts) zs → Stops 5 zs →
+    (core.Select (select_tree once items from filter group having) ≡ v) × (us ≡ zs)
+selected_only a b c n (core_select d) s = let o = select_only a b c n d s in (cc, o.1)
+
+selected_read : {once : Bool} {items : List ItemTree} {from : List JoinedTree} {filter having : Option OrTree} {group : List OrTree}
     {ts vs ws xs us : List Terminal} →
     Part (IsDistinct false) 21 ts once vs → Read (Listed IsItem) 9 vs items ws → Part IsFrom 8 ws from xs →
-    Part IsConditions 5 xs (filter, group, having) us → Read IsSelect 5 ts (select_tree once items from filter group having) us
-select_read a b c n = record {
-  found = joined_parts a.found b.found c.found n.found;
-  only = λ v ws d s. select_only a b c n d s;
+    Part IsConditions 5 xs (filter, group, having) us → Read IsSelected 5 ts (core.Select (select_tree once items from filter group having)) us
+selected_read a b c n = record {
+  found = core_select (joined_parts a.found b.found c.found n.found);
+  only = λ v ws d s. selected_only a b c n d s;
   shorter = let p = a.within in let q = b.shorter in let r = c.within in let t = n.within in omega arith;
 }
 
-no_items : {once : Bool} {v : SelectTree} {ts vs us : List Terminal} → Part (IsDistinct false) 21 ts once vs → Refuses (Listed IsItem) 9 vs →
-    IsSelect v ts us → Stops 5 us → ⊥
-no_items a n (select_of a1 b1 c1 d1 e1 f1) s =
+pub select_read : {once : Bool} {items : List ItemTree} {from : List JoinedTree} {parts : Option OrTree × List OrTree × Option OrTree}
+    {ts vs ws xs us : List Terminal} →
+    Part (IsDistinct false) 21 ts once vs → Read (Listed IsItem) 9 vs items ws → Part IsFrom 8 ws from xs →
+    Part IsConditions 5 xs parts us → Read IsSelected 5 ts (of_parts once items from parts) us
+select_read {parts = (filter, group, having)} a b c n = selected_read a b c n
+
+no_items : {once : Bool} {v : CoreTree} {ts vs us : List Terminal} → Part (IsDistinct false) 21 ts once vs → Refuses (Listed IsItem) 9 vs →
+    IsCore v (Fixed k.Select ∷ ts) us → Stops 5 us → ⊥
+no_items a n (core_select (select_of a1 b1 c1 d1 e1 f1)) s =
     let p = a.only _ _ a1 (items_begin b1) in
     n _ _ (moved (Listed IsItem) p.1 b1) (from_stop c1 (clause_stop d1 (group_stop e1 (clause_stop f1 s))))
 
 pub select_items_refused : {once : Bool} {ts vs : List Terminal} → Part (IsDistinct false) 21 ts once vs → Refuses (Listed IsItem) 9 vs →
-    Refuses IsSelect 5 ts
+    Refuses IsSelected 5 ts
 select_items_refused a n v us d s = no_items a n d s
 
-no_from_part : {once : Bool} {items : List ItemTree} {v : SelectTree} {ts vs ws us : List Terminal} → Part (IsDistinct false) 21 ts once vs →
-    Read (Listed IsItem) 9 vs items ws → Refuses IsFrom 8 ws → IsSelect v ts us → Stops 5 us → ⊥
-no_from_part a b n (select_of a1 b1 c1 d1 e1 f1) s =
+no_from_part : {once : Bool} {items : List ItemTree} {v : CoreTree} {ts vs ws us : List Terminal} → Part (IsDistinct false) 21 ts once vs →
+    Read (Listed IsItem) 9 vs items ws → Refuses IsFrom 8 ws → IsCore v (Fixed k.Select ∷ ts) us → Stops 5 us → ⊥
+no_from_part a b n (core_select (select_of a1 b1 c1 d1 e1 f1)) s =
     let sd = clause_stop d1 (group_stop e1 (clause_stop f1 s)) in
     let p = a.only _ _ a1 (items_begin b1) in
     let q = b.only _ _ (moved (Listed IsItem) p.1 b1) (from_stop c1 sd) in
     n _ _ (moved IsFrom q.1 c1) sd
 
 pub select_from_refused : {once : Bool} {items : List ItemTree} {ts vs ws : List Terminal} → Part (IsDistinct false) 21 ts once vs →
-    Read (Listed IsItem) 9 vs items ws → Refuses IsFrom 8 ws → Refuses IsSelect 5 ts
+    Read (Listed IsItem) 9 vs items ws → Refuses IsFrom 8 ws → Refuses IsSelected 5 ts
 select_from_refused a b n v us d s = no_from_part a b n d s
 
-no_conditions : {once : Bool} {items : List ItemTree} {from : List JoinedTree} {v : SelectTree} {ts vs ws xs us : List Terminal} →
+no_conditions : {once : Bool} {items : List ItemTree} {from : List JoinedTree} {v : CoreTree} {ts vs ws xs us : List Terminal} →
     Part (IsDistinct false) 21 ts once vs → Read (Listed IsItem) 9 vs items ws → Part IsFrom 8 ws from xs →
-    Refuses IsConditions 5 xs → IsSelect v ts us → Stops 5 us → ⊥
-no_conditions a b c n (select_of a1 b1 c1 d1 e1 f1) s =
+    Refuses IsConditions 5 xs → IsCore v (Fixed k.Select ∷ ts) us → Stops 5 us → ⊥
+no_conditions a b c n (core_select (select_of a1 b1 c1 d1 e1 f1)) s =
     let sd = clause_stop d1 (group_stop e1 (clause_stop f1 s)) in
     let p = a.only _ _ a1 (items_begin b1) in
     let q = b.only _ _ (moved (Listed IsItem) p.1 b1) (from_stop c1 sd) in
@@ -643,5 +724,5 @@ no_conditions a b c n (select_of a1 b1 c1 d1 e1 f1) s =
 
 pub select_conditions_refused : {once : Bool} {items : List ItemTree} {from : List JoinedTree} {ts vs ws xs : List Terminal} →
     Part (IsDistinct false) 21 ts once vs → Read (Listed IsItem) 9 vs items ws → Part IsFrom 8 ws from xs →
-    Refuses IsConditions 5 xs → Refuses IsSelect 5 ts
+    Refuses IsConditions 5 xs → Refuses IsSelected 5 ts
 select_conditions_refused a b c n v us d s = no_conditions a b c n d s

@@ -1,9 +1,12 @@
 -- Statements and scripts: from the reading of the parts to that of the whole.
-use Rattle.std.proofs.Common.{ℕ, List, [], ◌∷◌, ◌++◌, Bool, true, false, ◌≡◌, ◌<◌, length, refl, sym, ap, subst, arith, lit<, Result, Ok, Err, MatchResult, MatchOption, Bor}
-use Rattle.std.specs.Prelude.{Option, Some, None}
+use Rattle.std.proofs.Common.{ℕ, List, [], ◌∷◌, ◌++◌, Bool, true, false, ◌≡◌, ◌<◌, ◌⊎◌, inl, inr, length, refl, sym, ap, subst, arith, lit<, Result, Ok, Err, MatchResult, MatchOption, Bor}
+use Rattle.std.specs.Prelude.{Option, Some, None, All, Any, ◌≤◌}
+use Rattle.std.specs.List.{slice_index_or}
+use Rattle.std.specs.Slice.{IsItemAt}
 use Rattle.std.proofs.lemmas.List.{append-nil}
 use Rattle.std.proofs.Math.Seq.{append_snoc}
 use Rattle.aqe_lexer.specs.declared.token.Token.{Token}
+use Rattle.aqe_lexer.specs.Spans.{StandsIn}
 use Rattle.aqe_trees.specs.declared.terminal.Key.{Key}
 use Rattle.aqe_trees.specs.declared.terminal.Key.TheVariants as k
 use Rattle.aqe_trees.specs.declared.terminal.Terminal.{Terminal}
@@ -20,7 +23,7 @@ use Rattle.aqe_trees.specs.Tables.{IsCreate, create}
 use Rattle.aqe_reader.specs.declared.fault.ReadFault.{ReadFault}
 use Rattle.aqe_reader.specs.declared.fault.ReadFault.TheVariants as read
 use Rattle.aqe_syntax.specs.declared.fault.SyntaxFault.{SyntaxFault}
-use Rattle.aqe_syntax.specs.Causes.{IsPlaced, IsNoScript}
+use Rattle.aqe_syntax.specs.Causes.{IsTokenPlace, IsPlaced, IsNoScript}
 use Rattle.aqe_reader.specs.Reading.{Read, Refuses, IsRefusal}
 use Rattle.aqe_script.specs.Terminals.{terminals_of}
 use Rattle.aqe_script.specs.Settings.{IsSet, set}
@@ -176,7 +179,7 @@ pub cut_first : (source : List ℕ) {now : List (List Token)} {part : List Token
 cut_first source None e = ([], e)
 cut_first source (Some rest) e = (st.parts_of source rest.now, e)
 
-placed_cause : (source : List ℕ) (tokens : List Token) (e : SyntaxFault) (f : ReadFault) → IsPlaced f (length source) e →
+placed_cause : (source : List ℕ) (tokens : List Token) (e : SyntaxFault) (f : ReadFault) → IsPlaced f source tokens e →
     (IsRefusal f → (zs : List Stmt) → st.IsScript source tokens zs → ⊥) → IsNoScript source tokens e
 placed_cause source tokens e (read.Refused left) p n = rw p.1 (p.2, n tt)
 placed_cause source tokens e read.Memory p n = rw p tt
@@ -184,8 +187,26 @@ placed_cause source tokens e read.Memory p n = rw p tt
 pub script_fault : (source : List ℕ) (tokens : List Token) (e : SyntaxFault) {part : List Token} {now : List (List Token)} {script : List Stmt} (f : ReadFault)
     (more : Option (Bor (List Token))) → ScriptSoFar source (st.parts_of source tokens) script now →
     MatchOption more (now ≡ part ∷ []) (λ rest. now ≡ part ∷ st.parts_of source rest.now) → (IsRefusal f → HasNone source part) →
-    IsPlaced f (length source) e → IsNoScript source tokens e
+    IsPlaced f source tokens e → IsNoScript source tokens e
 script_fault source tokens e f more c m n p = placed_cause source tokens e f p (λ r. let known = cut_first source more m in script_refused c known.1 (n r))
+
+-- the place of a token, and the source's end
+
+start_within : {source : List ℕ} {t : Token} → StandsIn source t → t.start ≤ length source
+start_within s = let a = s.some in let b = s.within in omega arith
+
+token_begins : {source : List ℕ} (tokens : List Token) (i : ℕ) (t : Token) → All (StandsIn source) tokens → i < length tokens →
+    slice_index_or tokens i t ≡ t → IsTokenPlace source tokens t.start
+token_begins {source = source} tokens i t a l e = (start_within (subst (StandsIn source) e (a i t l)), inl (i, t, l, e, refl))
+
+pub token_place : (source : List ℕ) (tokens : List Token) (i : ℕ) (r : Option (Bor Token)) (t : Bor Token) → All (StandsIn source) tokens →
+    IsItemAt tokens i r → r ≡ Some t → IsTokenPlace source tokens t.now.start
+token_place source tokens i r t a g e =
+    let h = subst (λ (x : Option (Bor Token)). IsItemAt tokens i x) e g in
+    token_begins tokens i t.now a h.3.0 (sym (h.3.1 t.now))
+
+pub end_place : (source : List ℕ) (tokens : List Token) → IsTokenPlace source tokens (length source)
+end_place source tokens = (omega arith, inr refl)
 
 -- one part
 

@@ -1,6 +1,8 @@
 -- CREATE TABLE: from the reading of the parts to that of the whole.
-use Rattle.std.proofs.Common.{ℕ, List, [], ◌∷◌, Bool, true, false, ◌≡◌, ◌<◌, ◌⊎◌, inl, inr, length, refl, sym, ap, subst, arith, lit<, Result, Ok, Err, MatchResult}
+use Rattle.std.proofs.Common.{ℕ, List, [], ◌∷◌, Bool, true, false, ◌≡◌, ◌<◌, ◌⊎◌, inl, inr, length, refl, sym, ◌∙◌, ap, subst, arith, lit<, Result, Ok, Err, MatchResult}
 use Rattle.std.specs.Prelude.{Option, Some, None, codes, ◌==◌}
+use Rattle.std.specs.Str.{str_to_ascii_lowercase}
+use Rattle.std.proofs.lemmas.Slice.Eq.{bytes_eq-Decides}
 use Rattle.std.proofs.lemmas.Bool.Decides.{nat_tests}
 use Rattle.aqe_values.specs.declared.sql_type.SqlType.{SqlType}
 use Rattle.aqe_trees.specs.declared.terminal.Key.TheVariants as k
@@ -14,7 +16,7 @@ use Rattle.aqe_trees.specs.Lists.{Listed}
 use Rattle.aqe_trees.specs.Tables.{IsColumn, column_of, IsOption, option_of, option_equal, IsPlace, location, options_location, location_options, IsCreate, create}
 use Rattle.aqe_reader.specs.Reading.{Read, Refuses, Taken, Never, IsRefusal}
 use Rattle.aqe_reader.specs.declared.fault.ReadFault.{ReadFault}
-use Rattle.aqe_syntax.specs.TableParts.{IsTheWord, the_word, IsType, a_type, IsHead, head, IsFormat, format, IsOptionKey, option_key, IsEqual, equal_said, equal_unsaid, IsOptionValue, option_value, IsOptionsOpen, options_open, IsLocation, location_of, IsLastLocation, last_location, IsOptionsPlace, options_place, IsLateOptions, no_options, late_options}
+use Rattle.aqe_syntax.specs.TableParts.{IsTheWord, the_word, IsType, a_type, IsHead, head, IsFormat, format, IsOptionKey, option_key, IsEqual, equal_said, equal_unsaid, IsOptionValue, option_value, IsLocation, location_of, IsLastLocation, last_location, IsOptionsPlace, options_place, IsLateOptions, no_options, late_options}
 use Rattle.aqe_syntax.proofs.Chain.{moved}
 
 -- words
@@ -194,31 +196,7 @@ no_option_at (option_key e) (equal_unsaid m) n (option_of {u = u} f g) = n _ _ (
 pub option_value_refused : {key : List ℕ} {ts vs ws : List Terminal} → IsOptionKey key ts vs → IsEqual vs ws → Never IsOptionValue ws → Refuses IsOption 10 ts
 option_value_refused a b n v zs d s = no_option_at a b n d
 
--- OPTIONS and LOCATION
-
-no_options_word : {ts us : List Terminal} → ((vs : List Terminal) → IsTheWord (codes "options") ts vs → ⊥) → IsOptionsOpen ts us → ⊥
-no_options_word n (options_open h) = n _ (the_word h)
-
-pub options_word_refused : {ts : List Terminal} → ((vs : List Terminal) → IsTheWord (codes "options") ts vs → ⊥) →
-    (us : List Terminal) → IsOptionsOpen ts us → ⊥
-options_word_refused n us d = no_options_word n d
-
-no_options_paren : {ts vs us : List Terminal} → IsTheWord (codes "options") ts vs → ((ws : List Terminal) → vs ≡ Fixed k.Open ∷ ws → ⊥) →
-    IsOptionsOpen ts us → ⊥
-no_options_paren (the_word h) n (options_open i) = n _ refl
-
-pub options_paren_refused : {ts vs : List Terminal} → IsTheWord (codes "options") ts vs → ((ws : List Terminal) → vs ≡ Fixed k.Open ∷ ws → ⊥) →
-    (us : List Terminal) → IsOptionsOpen ts us → ⊥
-options_paren_refused w n us d = no_options_paren w n d
-
-opened_at : {ts vs us : List Terminal} → vs ≡ Fixed k.Open ∷ us → IsTheWord (codes "options") ts vs → IsTheWord (codes "options") ts (Fixed k.Open ∷ us)
-opened_at {ts = ts} e d = subst (λ (x : List Terminal). IsTheWord (codes "options") ts x) e d
-
-options_at : {ts us : List Terminal} → IsTheWord (codes "options") ts (Fixed k.Open ∷ us) → IsOptionsOpen ts us
-options_at (the_word h) = options_open h
-
-pub options_opened : {ts vs us : List Terminal} → IsTheWord (codes "options") ts vs → vs ≡ Fixed k.Open ∷ us → IsOptionsOpen ts us
-options_opened w e = options_at (opened_at e w)
+-- LOCATION
 
 no_location_word : {place : List ℕ} {ts us : List Terminal} → ((vs : List Terminal) → IsTheWord (codes "location") ts vs → ⊥) →
     IsLocation place ts us → ⊥
@@ -277,91 +255,139 @@ last_location_read e l n = rw e (last_at l n)
 last_stops : {place : List ℕ} {ts : List Terminal} → IsLastLocation place ts → Stops 9 ts
 last_stops (last_location h) = lit< tt
 
-no_first_options : {options : List (List ℕ × List ℕ)} {place : List ℕ} {ts : List Terminal} → Refuses (Listed IsOption) 9 ts →
+no_first_open : {options : List (List ℕ × List ℕ)} {place : List ℕ} {ts : List Terminal} → ((us : List Terminal) → ts ≡ Fixed k.Open ∷ us → ⊥) →
     IsOptionsPlace options place ts → ⊥
+no_first_open n (options_place d l) = n _ refl
+
+pub first_open_refused : {ts : List Terminal} → ((us : List Terminal) → ts ≡ Fixed k.Open ∷ us → ⊥) →
+    (options : List (List ℕ × List ℕ)) (place : List ℕ) → IsOptionsPlace options place ts → ⊥
+first_open_refused n options place d = no_first_open n d
+
+no_first_options : {options : List (List ℕ × List ℕ)} {place : List ℕ} {inside : List Terminal} → Refuses (Listed IsOption) 9 inside →
+    IsOptionsPlace options place (Fixed k.Open ∷ inside) → ⊥
 no_first_options n (options_place d l) = n _ _ d (last_stops l)
 
-pub first_options_refused : {ts : List Terminal} → Refuses (Listed IsOption) 9 ts →
+pub first_options_refused : {ts inside : List Terminal} → ts ≡ Fixed k.Open ∷ inside → Refuses (Listed IsOption) 9 inside →
     (options : List (List ℕ × List ℕ)) (place : List ℕ) → IsOptionsPlace options place ts → ⊥
-first_options_refused n options place d = no_first_options n d
+first_options_refused e n = rw e (λ options place d. no_first_options n d)
 
 at_last : {place : List ℕ} {a b : List Terminal} → a ≡ b → IsLastLocation place b → IsLastLocation place a
 at_last {place = place} e d = subst (λ (x : List Terminal). IsLastLocation place x) (sym e) d
 
-no_location_last : {some options : List (List ℕ × List ℕ)} {place : List ℕ} {ts us : List Terminal} → Read (Listed IsOption) 9 ts some us →
-    ((place : List ℕ) → IsLastLocation place us → ⊥) → IsOptionsPlace options place ts → ⊥
+no_location_last : {some options : List (List ℕ × List ℕ)} {place : List ℕ} {inside us : List Terminal} → Read (Listed IsOption) 9 inside some us →
+    ((place : List ℕ) → IsLastLocation place us → ⊥) → IsOptionsPlace options place (Fixed k.Open ∷ inside) → ⊥
 no_location_last r n (options_place d l) = let o = r.only _ _ d (last_stops l) in n _ (at_last o.1 l)
 
-pub last_refused : {some : List (List ℕ × List ℕ)} {ts us : List Terminal} → Read (Listed IsOption) 9 ts some us →
+pub last_refused : {some : List (List ℕ × List ℕ)} {ts inside us : List Terminal} → ts ≡ Fixed k.Open ∷ inside → Read (Listed IsOption) 9 inside some us →
     ((place : List ℕ) → IsLastLocation place us → ⊥) → (options : List (List ℕ × List ℕ)) (place : List ℕ) → IsOptionsPlace options place ts → ⊥
-last_refused r n options place d = no_location_last r n d
+last_refused e r n = rw e (λ options place d. no_location_last r n d)
+
+pub options_place_read : {options : List (List ℕ × List ℕ)} {place : List ℕ} {ts inside us : List Terminal} → ts ≡ Fixed k.Open ∷ inside →
+    Read (Listed IsOption) 9 inside options us → IsLastLocation place us → IsOptionsPlace options place ts
+options_place_read e r l = rw e (options_place r.found l)
 
 -- the end of LOCATION first
 
-not_late : {options : List (List ℕ × List ℕ)} {ts : List Terminal} → (ts ≡ [] → ⊥) → ((us : List Terminal) → IsOptionsOpen ts us → ⊥) →
+not_late : {options : List (List ℕ × List ℕ)} {ts : List Terminal} → (ts ≡ [] → ⊥) → ((us : List Terminal) → IsTheWord (codes "options") ts us → ⊥) →
     IsLateOptions options ts → ⊥
 not_late m n no_options = m refl
 not_late m n (late_options o d) = n _ o
 
-pub late_refused : {ts : List Terminal} → (ts ≡ [] → ⊥) → ((us : List Terminal) → IsOptionsOpen ts us → ⊥) →
+pub late_refused : {ts : List Terminal} → (ts ≡ [] → ⊥) → ((us : List Terminal) → IsTheWord (codes "options") ts us → ⊥) →
     (options : List (List ℕ × List ℕ)) → IsLateOptions options ts → ⊥
 late_refused m n options d = not_late m n d
 
-open_only : {ts us vs : List Terminal} → IsOptionsOpen ts us → IsOptionsOpen ts vs → us ≡ vs
-open_only (options_open h) (options_open i) = refl
+word_only : {wanted : List ℕ} {ts us vs : List Terminal} → IsTheWord wanted ts us → IsTheWord wanted ts vs → us ≡ vs
+word_only (the_word h) (the_word i) = refl
 
-no_late_open : {us : List Terminal} → IsOptionsOpen [] us → ⊥
-no_late_open d = elim d [ ]
+no_word_at_end : {word : List ℕ} {us : List Terminal} → IsTheWord word [] us → ⊥
+no_word_at_end d = elim d [ ]
 
-no_late_options : {options : List (List ℕ × List ℕ)} {ts vs : List Terminal} → IsOptionsOpen ts vs → Refuses (Listed IsOption) 9 vs →
-    IsLateOptions options ts → ⊥
-no_late_options o n no_options = no_late_open o
-no_late_options o n (late_options p d) = let e = open_only o p in n _ _ (moved (Listed IsOption) e d) (lit< tt)
+not_open : {options : List (List ℕ × List ℕ)} {ts opened : List Terminal} → IsTheWord (codes "options") ts opened →
+    ((us : List Terminal) → opened ≡ Fixed k.Open ∷ us → ⊥) → IsLateOptions options ts → ⊥
+not_open o n no_options = no_word_at_end o
+not_open o n (late_options p d) = n _ (word_only o p)
 
-pub late_options_refused : {ts vs : List Terminal} → IsOptionsOpen ts vs → Refuses (Listed IsOption) 9 vs →
+pub late_open_refused : {ts opened : List Terminal} → IsTheWord (codes "options") ts opened → ((us : List Terminal) → opened ≡ Fixed k.Open ∷ us → ⊥) →
     (options : List (List ℕ × List ℕ)) → IsLateOptions options ts → ⊥
-late_options_refused o n options d = no_late_options o n d
+late_open_refused o n options d = not_open o n d
 
-not_closed : {some options : List (List ℕ × List ℕ)} {ts vs us : List Terminal} → IsOptionsOpen ts vs → Read (Listed IsOption) 9 vs some us →
-    (us ≡ Fixed k.Close ∷ [] → ⊥) → IsLateOptions options ts → ⊥
-not_closed o r n no_options = no_late_open o
-not_closed o r n (late_options p d) =
-    let e = open_only o p in
-    let w = r.only _ _ (moved (Listed IsOption) e d) (lit< tt) in
+inside_only : {ts opened vs ws : List Terminal} → IsTheWord (codes "options") ts opened → opened ≡ Fixed k.Open ∷ vs →
+    IsTheWord (codes "options") ts (Fixed k.Open ∷ ws) → vs ≡ ws
+inside_only o e p = let f = word_only o p in cc
+
+no_late_options : {options : List (List ℕ × List ℕ)} {ts opened vs : List Terminal} → IsTheWord (codes "options") ts opened → opened ≡ Fixed k.Open ∷ vs →
+    Refuses (Listed IsOption) 9 vs → IsLateOptions options ts → ⊥
+no_late_options o e n no_options = no_word_at_end o
+no_late_options o e n (late_options p d) = n _ _ (moved (Listed IsOption) (inside_only o e p) d) (lit< tt)
+
+pub late_options_refused : {ts opened vs : List Terminal} → IsTheWord (codes "options") ts opened → opened ≡ Fixed k.Open ∷ vs →
+    Refuses (Listed IsOption) 9 vs → (options : List (List ℕ × List ℕ)) → IsLateOptions options ts → ⊥
+late_options_refused o e n options d = no_late_options o e n d
+
+not_closed : {some options : List (List ℕ × List ℕ)} {ts opened vs us : List Terminal} → IsTheWord (codes "options") ts opened → opened ≡ Fixed k.Open ∷ vs →
+    Read (Listed IsOption) 9 vs some us → (us ≡ Fixed k.Close ∷ [] → ⊥) → IsLateOptions options ts → ⊥
+not_closed o e r n no_options = no_word_at_end o
+not_closed o e r n (late_options p d) =
+    let w = r.only _ _ (moved (Listed IsOption) (inside_only o e p) d) (lit< tt) in
     n w.1
 
-pub late_close_refused : {some : List (List ℕ × List ℕ)} {ts vs us : List Terminal} → IsOptionsOpen ts vs → Read (Listed IsOption) 9 vs some us →
-    (us ≡ Fixed k.Close ∷ [] → ⊥) → (options : List (List ℕ × List ℕ)) → IsLateOptions options ts → ⊥
-late_close_refused o r n options d = not_closed o r n d
+at_open : {ts opened us : List Terminal} → opened ≡ us → IsTheWord (codes "options") ts opened → IsTheWord (codes "options") ts us
+at_open {ts = ts} e d = subst (λ (x : List Terminal). IsTheWord (codes "options") ts x) e d
 
-pub late_read : {options : List (List ℕ × List ℕ)} {ts vs us : List Terminal} → IsOptionsOpen ts vs → Read (Listed IsOption) 9 vs options us →
-    us ≡ Fixed k.Close ∷ [] → IsLateOptions options ts
-late_read {options = options} {vs = vs} o r e = late_options o (subst (λ (x : List Terminal). Listed IsOption options vs x) e r.found)
+late_read : {options : List (List ℕ × List ℕ)} {ts opened vs us : List Terminal} → IsTheWord (codes "options") ts opened → opened ≡ Fixed k.Open ∷ vs →
+    Read (Listed IsOption) 9 vs options us → us ≡ Fixed k.Close ∷ [] → IsLateOptions options ts
+late_read {options = options} {vs = vs} o e r f = late_options (at_open e o) (subst (λ (x : List Terminal). Listed IsOption options vs x) f r.found)
+
+pub late_more_refused : {some : List (List ℕ × List ℕ)} {ts opened vs us more : List Terminal} → IsTheWord (codes "options") ts opened → opened ≡ Fixed k.Open ∷ vs →
+    Read (Listed IsOption) 9 vs some us → us ≡ Fixed k.Close ∷ more → (more ≡ [] → ⊥) → (options : List (List ℕ × List ℕ)) → IsLateOptions options ts → ⊥
+late_more_refused o e r f n options d = not_closed o e r (λ g. n (cc)) d
+
+pub late_end_refused : {some : List (List ℕ × List ℕ)} {ts opened vs us : List Terminal} → IsTheWord (codes "options") ts opened → opened ≡ Fixed k.Open ∷ vs →
+    Read (Listed IsOption) 9 vs some us → ((more : List Terminal) → us ≡ Fixed k.Close ∷ more → ⊥) → (options : List (List ℕ × List ℕ)) →
+    IsLateOptions options ts → ⊥
+late_end_refused o e r n options d = not_closed o e r (λ g. n _ g) d
+
+pub late_whole : {options : List (List ℕ × List ℕ)} {ts opened vs us more : List Terminal} → IsTheWord (codes "options") ts opened → opened ≡ Fixed k.Open ∷ vs →
+    Read (Listed IsOption) 9 vs options us → us ≡ Fixed k.Close ∷ more → more ≡ [] → IsLateOptions options ts
+late_whole o e r f g = late_read o e r (cc)
 
 -- the place of a table
 
-options_first_found : {options : List (List ℕ × List ℕ)} {place : List ℕ} {ts vs : List Terminal} → IsOptionsOpen ts vs →
+options_first_found : {options : List (List ℕ × List ℕ)} {place : List ℕ} {ts vs : List Terminal} → IsTheWord (codes "options") ts vs →
     IsOptionsPlace options place vs → IsPlace options place ts
-options_first_found (options_open h) (options_place d (last_location i)) = options_location h d i
+options_first_found (the_word h) (options_place d (last_location i)) = options_location h d i
 
-no_options_first : {options : List (List ℕ × List ℕ)} {place : List ℕ} {ts vs : List Terminal} → IsOptionsOpen ts vs →
+lowered : (text wanted : List ℕ) → is_word wanted text ≡ true → str_to_ascii_lowercase text ≡ str_to_ascii_lowercase wanted
+lowered text wanted h = (bytes_eq-Decides (str_to_ascii_lowercase text) (str_to_ascii_lowercase wanted)).0 h
+
+seven_or_eight : (n : ℕ) → n ≡ 7 → n ≡ 8 → ⊥
+seven_or_eight n e f = omega (arith, e, f)
+
+other_first : (word : List ℕ) → is_word (codes "options") word ≡ true → is_word (codes "location") word ≡ true → ⊥
+other_first word h i =
+    seven_or_eight (length (str_to_ascii_lowercase word)) (ap length (lowered word (codes "options") h)) (ap length (lowered word (codes "location") i))
+
+no_options_first : {options : List (List ℕ × List ℕ)} {place : List ℕ} {ts vs : List Terminal} → IsTheWord (codes "options") ts vs →
     ((o : List (List ℕ × List ℕ)) (p : List ℕ) → IsOptionsPlace o p vs → ⊥) → IsPlace options place ts → ⊥
-no_options_first (options_open h) n (options_location i d e) = n _ _ (options_place d (last_location e))
+no_options_first (the_word h) n (options_location i d e) = n _ _ (options_place d (last_location e))
+no_options_first (the_word {text = word} h) n (location i) = other_first word h i
+no_options_first (the_word {text = word} h) n (location_options i j d) = other_first word h i
 
-pub options_first_answer : {ts vs : List Terminal} (r : Result (List (List ℕ × List ℕ) × List ℕ) ReadFault) → IsOptionsOpen ts vs →
+pub options_first_answer : {ts vs : List Terminal} (r : Result (List (List ℕ × List ℕ) × List ℕ) ReadFault) → IsTheWord (codes "options") ts vs →
     MatchResult r (λ x. IsOptionsPlace x.0 x.1 vs)
     (λ e. IsRefusal e → (o : List (List ℕ × List ℕ)) (p : List ℕ) → IsOptionsPlace o p vs → ⊥) →
     MatchResult r (λ x. IsPlace x.0 x.1 ts) (λ e. IsRefusal e → (o : List (List ℕ × List ℕ)) (p : List ℕ) → IsPlace o p ts → ⊥)
 options_first_answer (Ok x) o d = options_first_found o d
 options_first_answer (Err e) o n = λ f a p d. no_options_first o (n f) d
 
-no_place_word : {options : List (List ℕ × List ℕ)} {place : List ℕ} {ts : List Terminal} → ((us : List Terminal) → IsOptionsOpen ts us → ⊥) →
+no_place_word : {options : List (List ℕ × List ℕ)} {place : List ℕ} {ts : List Terminal} → ((us : List Terminal) → IsTheWord (codes "options") ts us → ⊥) →
     ((text : List ℕ) (us : List Terminal) → IsLocation text ts us → ⊥) → IsPlace options place ts → ⊥
 no_place_word m n (location h) = n _ _ (location_of h)
-no_place_word m n (options_location h d e) = m _ (options_open h)
+no_place_word m n (options_location h d e) = m _ (the_word h)
 no_place_word m n (location_options h i d) = n _ _ (location_of h)
 
-pub place_word_refused : {ts : List Terminal} → ((us : List Terminal) → IsOptionsOpen ts us → ⊥) →
+pub place_word_refused : {ts : List Terminal} → ((us : List Terminal) → IsTheWord (codes "options") ts us → ⊥) →
     ((text : List ℕ) (us : List Terminal) → IsLocation text ts us → ⊥) →
     (options : List (List ℕ × List ℕ)) (place : List ℕ) → IsPlace options place ts → ⊥
 place_word_refused m n options place d = no_place_word m n d
@@ -369,12 +395,12 @@ place_word_refused m n options place d = no_place_word m n d
 pub location_first_read : {options : List (List ℕ × List ℕ)} {place : List ℕ} {ts vs : List Terminal} → IsLocation place ts vs →
     IsLateOptions options vs → IsPlace options place ts
 location_first_read (location_of h) no_options = location h
-location_first_read (location_of h) (late_options (options_open i) d) = location_options h i d
+location_first_read (location_of h) (late_options (the_word i) d) = location_options h i d
 
 no_location_first : {options : List (List ℕ × List ℕ)} {place text : List ℕ} {ts vs : List Terminal} → IsLocation text ts vs →
     ((o : List (List ℕ × List ℕ)) → IsLateOptions o vs → ⊥) → IsPlace options place ts → ⊥
 no_location_first (location_of h) n (location i) = n _ no_options
-no_location_first (location_of h) n (location_options i j d) = n _ (late_options (options_open j) d)
+no_location_first (location_of h) n (location_options i j d) = n _ (late_options (the_word j) d)
 
 pub location_first_refused : {text : List ℕ} {ts vs : List Terminal} → IsLocation text ts vs → ((o : List (List ℕ × List ℕ)) → IsLateOptions o vs → ⊥) →
     (options : List (List ℕ × List ℕ)) (place : List ℕ) → IsPlace options place ts → ⊥
@@ -385,22 +411,29 @@ location_first_refused l n options place d = no_location_first l n d
 format_at : {ts us : List Terminal} → ts ≡ Fixed k.Close ∷ Fixed k.Using ∷ us → {vs : List Terminal} → IsTheWord (codes "csv") us vs → IsFormat ts vs
 format_at e (the_word h) = rw e (format h)
 
-pub format_read : {ts us vs : List Terminal} → ts ≡ Fixed k.Close ∷ Fixed k.Using ∷ us → IsTheWord (codes "csv") us vs → IsFormat ts vs
-format_read e d = format_at e d
+pub format_read : {ts close us vs : List Terminal} → ts ≡ Fixed k.Close ∷ close → close ≡ Fixed k.Using ∷ us → IsTheWord (codes "csv") us vs →
+    IsFormat ts vs
+format_read e f d = format_at (cc) d
 
-no_format_words : {ts vs : List Terminal} → ((us : List Terminal) → ts ≡ Fixed k.Close ∷ Fixed k.Using ∷ us → ⊥) → IsFormat ts vs → ⊥
-no_format_words n (format h) = n _ refl
+no_format_close : {ts vs : List Terminal} → ((us : List Terminal) → ts ≡ Fixed k.Close ∷ us → ⊥) → IsFormat ts vs → ⊥
+no_format_close n (format h) = n _ refl
 
-pub format_words_refused : {ts : List Terminal} → ((us : List Terminal) → ts ≡ Fixed k.Close ∷ Fixed k.Using ∷ us → ⊥) →
+pub format_close_refused : {ts : List Terminal} → ((us : List Terminal) → ts ≡ Fixed k.Close ∷ us → ⊥) → (vs : List Terminal) → IsFormat ts vs → ⊥
+format_close_refused n vs d = no_format_close n d
+
+no_format_using : {close vs : List Terminal} → ((us : List Terminal) → close ≡ Fixed k.Using ∷ us → ⊥) → IsFormat (Fixed k.Close ∷ close) vs → ⊥
+no_format_using n (format h) = n _ refl
+
+pub format_using_refused : {ts close : List Terminal} → ts ≡ Fixed k.Close ∷ close → ((us : List Terminal) → close ≡ Fixed k.Using ∷ us → ⊥) →
     (vs : List Terminal) → IsFormat ts vs → ⊥
-format_words_refused n vs d = no_format_words n d
+format_using_refused e n = rw e (λ vs d. no_format_using n d)
 
 no_csv : {us vs : List Terminal} → ((ws : List Terminal) → IsTheWord (codes "csv") us ws → ⊥) → IsFormat (Fixed k.Close ∷ Fixed k.Using ∷ us) vs → ⊥
 no_csv n (format h) = n _ (the_word h)
 
-pub csv_refused : {ts us : List Terminal} → ts ≡ Fixed k.Close ∷ Fixed k.Using ∷ us → ((ws : List Terminal) → IsTheWord (codes "csv") us ws → ⊥) →
-    (vs : List Terminal) → IsFormat ts vs → ⊥
-csv_refused e n = rw e (λ vs d. no_csv n d)
+pub csv_refused : {ts close us : List Terminal} → ts ≡ Fixed k.Close ∷ close → close ≡ Fixed k.Using ∷ us →
+    ((ws : List Terminal) → IsTheWord (codes "csv") us ws → ⊥) → (vs : List Terminal) → IsFormat ts vs → ⊥
+csv_refused e f n = rw (e, f) (λ vs d. no_csv n d)
 
 head_tail : {name : List ℕ} {quoted : Bool} {ts us : List Terminal} → IsTheWord (codes "table") ts (Name name quoted ∷ Fixed k.Open ∷ us) →
     IsHead name (Fixed k.Create ∷ ts) us
@@ -430,14 +463,31 @@ pub head_word_refused : {ts after : List Terminal} → ts ≡ Fixed k.Create ∷
 head_word_refused e n = rw e (λ name us d. no_head_word n d)
 
 no_head_name : {name : List ℕ} {after vs us : List Terminal} → IsTheWord (codes "table") after vs →
-    ((text : List ℕ) (quoted : Bool) (ws : List Terminal) → vs ≡ Name text quoted ∷ Fixed k.Open ∷ ws → ⊥) →
+    ((text : List ℕ) (quoted : Bool) (ws : List Terminal) → vs ≡ Name text quoted ∷ ws → ⊥) →
     IsHead name (Fixed k.Create ∷ after) us → ⊥
 no_head_name (the_word i) n (head h) = n _ _ _ refl
 
 pub head_name_refused : {ts after vs : List Terminal} → ts ≡ Fixed k.Create ∷ after → IsTheWord (codes "table") after vs →
-    ((text : List ℕ) (quoted : Bool) (ws : List Terminal) → vs ≡ Name text quoted ∷ Fixed k.Open ∷ ws → ⊥) →
+    ((text : List ℕ) (quoted : Bool) (ws : List Terminal) → vs ≡ Name text quoted ∷ ws → ⊥) →
     (name : List ℕ) (us : List Terminal) → IsHead name ts us → ⊥
 head_name_refused e w n = rw e (λ name us d. no_head_name w n d)
+
+no_head_open : {name text : List ℕ} {quoted : Bool} {after opened us : List Terminal} → IsTheWord (codes "table") after (Name text quoted ∷ opened) →
+    ((ws : List Terminal) → opened ≡ Fixed k.Open ∷ ws → ⊥) → IsHead name (Fixed k.Create ∷ after) us → ⊥
+no_head_open (the_word i) n (head h) = n _ refl
+
+head_open_at : {text : List ℕ} {quoted : Bool} {after vs opened : List Terminal} → vs ≡ Name text quoted ∷ opened → IsTheWord (codes "table") after vs →
+    IsTheWord (codes "table") after (Name text quoted ∷ opened)
+head_open_at {after = after} f w = subst (λ (x : List Terminal). IsTheWord (codes "table") after x) f w
+
+pub head_open_refused : {text : List ℕ} {quoted : Bool} {ts after vs opened : List Terminal} → ts ≡ Fixed k.Create ∷ after →
+    IsTheWord (codes "table") after vs → vs ≡ Name text quoted ∷ opened → ((ws : List Terminal) → opened ≡ Fixed k.Open ∷ ws → ⊥) →
+    (name : List ℕ) (us : List Terminal) → IsHead name ts us → ⊥
+head_open_refused e w f n = rw e (λ name us d. no_head_open (head_open_at f w) n d)
+
+pub head_at : {name : List ℕ} {quoted : Bool} {ts after vs opened us : List Terminal} → ts ≡ Fixed k.Create ∷ after →
+    IsTheWord (codes "table") after vs → vs ≡ Name name quoted ∷ opened → opened ≡ Fixed k.Open ∷ us → IsHead name ts us
+head_at {quoted = quoted} e w f g = head_read {quoted = quoted} e w (cc)
 
 -- the whole
 

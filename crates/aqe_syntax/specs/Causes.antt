@@ -10,15 +10,19 @@ use Rattle.aqe_script.specs.QueryNesting.{nesting}
 use Rattle.aqe_syntax.specs.declared.fault.SyntaxFault.{SyntaxFault}
 use Rattle.aqe_syntax.specs.declared.fault.SyntaxFault.TheVariants as syntax
 
--- a refusal is told by a place within the source, want of memory as it is
-abbrev pub IsPlaced : ReadFault → ℕ → SyntaxFault → Type 0
-IsPlaced (read.Refused left) size fault = (at : ℕ) × (fault ≡ syntax.NotASentence at) × (at ≤ size)
-IsPlaced read.Memory size fault = fault ≡ syntax.Memory
+-- a token of the source begins at the place, or it is the source's end
+abbrev pub IsTokenPlace : List ℕ → List Token → ℕ → Type 0
+IsTokenPlace source tokens at = (at ≤ length source) × (Any (λ token. token.start ≡ at) tokens ⊎ (at ≡ length source))
+
+-- a refusal is told by a place in the source, want of memory as it is
+abbrev pub IsPlaced : ReadFault → List ℕ → List Token → SyntaxFault → Type 0
+IsPlaced (read.Refused left) source tokens fault = (at : ℕ) × (fault ≡ syntax.NotASentence at) × IsTokenPlace source tokens at
+IsPlaced read.Memory source tokens fault = fault ≡ syntax.Memory
 
 -- the tokens are no script, or memory was wanting
 abbrev pub IsNoScript : List ℕ → List Token → SyntaxFault → Type 0
 IsNoScript source tokens syntax.TooDeep = ⊥
-IsNoScript source tokens (syntax.NotASentence at) = (at ≤ length source) × ((script : List Stmt) → IsScript source tokens script → ⊥)
+IsNoScript source tokens (syntax.NotASentence at) = IsTokenPlace source tokens at × ((script : List Stmt) → IsScript source tokens script → ⊥)
 IsNoScript source tokens syntax.Memory = Unit {0}
 
 -- the statement is nested deeper than the limit
@@ -39,5 +43,5 @@ IsTooDeep source tokens = IsTooOpen source tokens ⊎ ((script : List Stmt) × I
 abbrev pub IsCause : List ℕ → List Token → SyntaxFault → Type 0
 IsCause source tokens syntax.TooDeep = IsTooDeep source tokens
 IsCause source tokens (syntax.NotASentence at) =
-    (at ≤ length source) × ((script : List Stmt) → IsScript source tokens script → ⊥) × (IsTooOpen source tokens → ⊥)
+    IsTokenPlace source tokens at × ((script : List Stmt) → IsScript source tokens script → ⊥) × (IsTooOpen source tokens → ⊥)
 IsCause source tokens syntax.Memory = Unit {0}

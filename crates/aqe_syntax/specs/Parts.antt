@@ -1,25 +1,36 @@
 -- Parts of rules that the grammar does not name.
 use Rattle.std.specs.Prelude.{ℕ, List, ◌∷◌, Option}
+use Rattle.aqe_base.specs.declared.join_kind.JoinKind.{JoinKind}
 use Rattle.aqe_trees.specs.declared.terminal.Key.TheVariants as k
 use Rattle.aqe_trees.specs.declared.terminal.Terminal.{Terminal}
 use Rattle.aqe_trees.specs.declared.terminal.Terminal.TheVariants.{Fixed}
 use Rattle.aqe_trees.specs.declared.query.QueryTree.{QueryTree}
 use Rattle.aqe_trees.specs.declared.expression.OrTree.{OrTree}
-use Rattle.aqe_trees.specs.declared.query.UnionTree.{UnionTree}
+use Rattle.aqe_trees.specs.declared.query.CoreTree.{CoreTree}
+use Rattle.aqe_trees.specs.declared.query.JoinStep.{JoinStep}
+use Rattle.aqe_trees.specs.declared.query.SourceTree.{SourceTree}
 use Rattle.aqe_trees.specs.declared.query.SortTree.{SortTree}
-use Rattle.aqe_trees.specs.Shapes.{query_tree}
+use Rattle.aqe_trees.specs.Shapes.{join_step}
 use Rattle.aqe_trees.specs.Lists.{IsClause, IsBound}
-use Rattle.aqe_trees.specs.Queries.{IsQuery, IsOrder, IsGroup}
+use Rattle.aqe_trees.specs.Queries.{IsQuery, IsCore, IsSource, IsOrder, IsGroup}
 
 -- query ): a query in parentheses, behind the first of them
 abbrev pub IsNested : QueryTree → List Terminal → List Terminal → Type 0
 IsNested query ts us = IsQuery query ts (Fixed k.Close ∷ us)
 
--- [ORDER BY sort {, sort}] [LIMIT number] [OFFSET number]: the query that this makes of its body
-pub data IsTail (body : UnionTree) : QueryTree → List Terminal → List Terminal → Type 0 where
+-- [ORDER BY sort {, sort}] [LIMIT number] [OFFSET number]
+pub data IsTail : (List SortTree × Option ℕ × Option ℕ) → List Terminal → List Terminal → Type 0 where
   tail_of : {order : List SortTree} {limit offset : Option ℕ} {ts vs ws us : List Terminal} →
-      IsOrder order ts vs → IsBound k.Limit limit vs ws → IsBound k.Offset offset ws us →
-      IsTail body (query_tree body order limit offset) ts us
+      IsOrder order ts vs → IsBound k.Limit limit vs ws → IsBound k.Offset offset ws us → IsTail (order, limit, offset) ts us
+
+-- what stands behind SELECT
+abbrev pub IsSelected : CoreTree → List Terminal → List Terminal → Type 0
+IsSelected core ts us = IsCore core (Fixed k.Select ∷ ts) us
+
+-- source [ON or], behind the JOIN of this kind
+pub data IsStep (kind : JoinKind) : JoinStep → List Terminal → List Terminal → Type 0 where
+  step_of : {source : SourceTree} {on : Option OrTree} {ts vs us : List Terminal} →
+      IsSource source ts vs → IsClause k.On on vs us → IsStep kind (join_step kind source on) ts us
 
 -- [WHERE or] [GROUP BY or {, or}] [HAVING or]
 pub data IsConditions : (Option OrTree × List OrTree × Option OrTree) → List Terminal → List Terminal → Type 0 where

@@ -39,11 +39,6 @@ pub data IsEqual : List Terminal → List Terminal → Type 0 where
 pub data IsOptionValue : List ℕ → List Terminal → List Terminal → Type 0 where
   option_value : {value : List ℕ} {t : Terminal} {us : List Terminal} → option_value_of t ≡ Some value → IsOptionValue value (t ∷ us) us
 
--- OPTIONS (
-pub data IsOptionsOpen : List Terminal → List Terminal → Type 0 where
-  options_open : {word : List ℕ} {us : List Terminal} → is_word (codes "options") word ≡ true →
-      IsOptionsOpen (Name word false ∷ Fixed k.Open ∷ us) us
-
 -- LOCATION string
 pub data IsLocation : List ℕ → List Terminal → List Terminal → Type 0 where
   location_of : {word place : List ℕ} {us : List Terminal} → is_word (codes "location") word ≡ true →
@@ -54,13 +49,13 @@ pub data IsLastLocation : List ℕ → List Terminal → Type 0 where
   last_location : {word place : List ℕ} → is_word (codes "location") word ≡ true →
       IsLastLocation place (Fixed k.Close ∷ Name word false ∷ Literal place ∷ [])
 
--- option {, option} ) LOCATION string
+-- ( option {, option} ) LOCATION string, and nothing behind it
 pub data IsOptionsPlace : List (List ℕ × List ℕ) → List ℕ → List Terminal → Type 0 where
   options_place : {options : List (List ℕ × List ℕ)} {place : List ℕ} {ts vs : List Terminal} →
-      Listed IsOption options ts vs → IsLastLocation place vs → IsOptionsPlace options place ts
+      Listed IsOption options ts vs → IsLastLocation place vs → IsOptionsPlace options place (Fixed k.Open ∷ ts)
 
 -- [OPTIONS ( option {, option} )], and nothing behind it
 pub data IsLateOptions : List (List ℕ × List ℕ) → List Terminal → Type 0 where
   no_options : IsLateOptions [] []
   late_options : {options : List (List ℕ × List ℕ)} {ts vs : List Terminal} →
-      IsOptionsOpen ts vs → Listed IsOption options vs (Fixed k.Close ∷ []) → IsLateOptions options ts
+      IsTheWord (codes "options") ts (Fixed k.Open ∷ vs) → Listed IsOption options vs (Fixed k.Close ∷ []) → IsLateOptions options ts

@@ -7,7 +7,7 @@ pub enum SyntaxFault {
     TooDeep,
     /// The tokens are no script, and none of them is open too deep.
     NotASentence {
-        /// The offset of the token before which reading stopped, or the source's length behind the last.
+        /// The offset of the first token with which no sentence goes on, or the source's length where it ends too early.
         at: u64,
     },
     /// Memory ran out.

@@ -1,12 +1,14 @@
 //! The kinds of join, with JOIN itself.
 
-ghost use Rattle.std.specs.Prelude.{◌≡◌, ◌∷◌, MatchOption};
+ghost use Rattle.std.specs.Prelude.{◌≡◌, ◌∷◌, MatchOption, IfErr};
 ghost use Rattle.aqe_trees.specs.declared.terminal.Terminal;
+ghost use Rattle.aqe_trees.specs.Follow.{binds_at};
 ghost use Rattle.aqe_trees.specs.Queries.{IsKind};
 ghost use Rattle.aqe_syntax.specs.Parts.{IsOuterJoin};
 
 use crate::words::pair;
 use aqe_base::JoinKind;
+use aqe_reader::ReadFault;
 use aqe_reader::cursor::eat;
 use aqe_trees::{Key, Terminal};
 
@@ -71,4 +73,51 @@ fn outer_join(kind: JoinKind, terminals: &[Terminal]) -> Option<(JoinKind, &[Ter
         return Some((kind, rest));
     }
     None
+}
+
+/// What stands behind OUTER, where it comes first.
+fn behind_outer(terminals: &[Terminal]) -> &[Terminal] {
+    match eat(terminals, Key::Outer) {
+        Some(rest) => rest,
+        None => terminals,
+    }
+}
+
+/// What stands behind OUTER, SEMI or ANTI, where one of them comes first.
+fn behind_side(terminals: &[Terminal]) -> &[Terminal] {
+    if let Some(rest) = eat(terminals, Key::Semi) {
+        return rest;
+    }
+    match eat(terminals, Key::Anti) {
+        Some(rest) => rest,
+        None => behind_outer(terminals),
+    }
+}
+
+/// The place at which a kind of join that begins here breaks off, where its JOIN is wanting.
+pub fn no_join(terminals: &[Terminal]) -> Result<(), ReadFault>
+    ensures { IfErr result (λ _. binds_at terminals.now ≡ 10) }
+{
+    if let Some(rest) = eat(terminals, Key::Left) {
+        return Err(ReadFault::at(behind_side(rest)));
+    }
+    if let Some(rest) = eat(terminals, Key::Right) {
+        return Err(ReadFault::at(behind_outer(rest)));
+    }
+    if let Some(rest) = eat(terminals, Key::Full) {
+        return Err(ReadFault::at(behind_outer(rest)));
+    }
+    if let Some(rest) = eat(terminals, Key::Inner) {
+        return Err(ReadFault::at(rest));
+    }
+    if let Some(rest) = eat(terminals, Key::Cross) {
+        return Err(ReadFault::at(rest));
+    }
+    if let Some(rest) = eat(terminals, Key::Semi) {
+        return Err(ReadFault::at(rest));
+    }
+    if let Some(rest) = eat(terminals, Key::Anti) {
+        return Err(ReadFault::at(rest));
+    }
+    Ok(())
 }

@@ -1,6 +1,7 @@
 //! The reader of scripts: from tokens to the trees that they spell, proved against the grammar in both directions; and back to a text.
 #![tactic(auto)]
 
+mod boxes;
 mod fault;
 mod joins;
 mod parsing;

@@ -1,19 +1,21 @@
 //! The parts of a query that hold no query.
 
-ghost use Rattle.std.specs.Prelude.{◌≡◌, ◌∷◌, ◌≤◌, ◌<◌, MatchOption, MatchResult, IfOk};
-ghost use Rattle.aqe_trees.specs.declared.terminal.Terminal;
+ghost use Rattle.std.specs.Prelude.{◌≡◌, ◌<◌, MatchResult};
+ghost use Rattle.aqe_trees.specs.declared.query.ItemTree;
+ghost use Rattle.aqe_trees.specs.Shapes.{sort_tree};
 ghost use Rattle.aqe_trees.specs.Follow.{key_binds};
 ghost use Rattle.aqe_trees.specs.Lists.{Listed, IsClause, IsBound, IsAlias, IsDistinct};
 ghost use Rattle.aqe_trees.specs.Queries.{IsItem, IsWay, IsNulls, IsSort, IsOrder, IsGroup};
 ghost use Rattle.aqe_reader.specs.Reading.{Read, Refuses, Part, IsRefusal};
 ghost use Rattle.aqe_syntax.specs.Parts.{IsTail, IsConditions};
 
-use crate::words::{copied, is_word, name_star, number, pair, word};
-use aqe_reader::cursor::{eat, name};
-use aqe_reader::{ReadFault, expression, expressions};
-use aqe_trees::{ItemTree, Key, OrTree, QueryTree, SortTree, Terminal, UnionTree};
-use aqe_values::{Memory, Text};
-use sqlite_items::Items;
+use crate::words::{copied, is_word, name_star, number, word};
+use aqe_reader::cursor::{eat, expect, name};
+use aqe_reader::pieces::{beside, plain_more};
+use aqe_reader::{ReadFault, boxed_expression, expressions};
+use aqe_trees::{ItemTree, Key, OrTree, SortTree, Terminal};
+use aqe_values::Text;
+use sqlite_items::{Boxed, Items};
 use std::alloc::Global;
 
 /// The largest number of LIMIT and OFFSET.
@@ -46,43 +48,52 @@ pub fn way(terminals: &[Terminal]) -> (bool, &[Terminal])
 }
 
 /// `[NULLS (FIRST | LAST)]`: whether NULLs stand last, which is as given where it is not written.
-pub fn nulls(terminals: &[Terminal], usual: bool) -> (bool, &[Terminal])
-    ensures { Part (IsNulls usual) 12 terminals.now result.0 result.1.now }
+pub fn nulls(terminals: &[Terminal], usual: bool) -> Result<(bool, &[Terminal]), ReadFault>
+    ensures { MatchResult result
+        (λ x. Part (IsNulls usual) 12 terminals.now x.0 x.1.now)
+        (λ e. IsRefusal e → Refuses (IsNulls usual) 12 terminals.now) }
 {
     let Some(after) = eat(terminals, Key::Nulls) else {
-        return (usual, terminals);
+        return Ok((usual, terminals));
     };
     let Some((place, rest)) = word(after) else {
-        return (usual, terminals);
+        return Err(ReadFault::at(after));
     };
     if is_word(place, "first") {
-        return (false, rest);
+        return Ok((false, rest));
     }
     if is_word(place, "last") {
-        return (true, rest);
+        return Ok((true, rest));
     }
-    (usual, terminals)
+    Err(ReadFault::at(after))
 }
 
 /// `[LIMIT number]` or `[OFFSET number]`, by its word.
-pub fn bound(terminals: &[Terminal], key: Key) -> (Option<u64>, &[Terminal])
-    ensures { Part (IsBound key) (key_binds key) terminals.now result.0 result.1.now }
+pub fn bound(terminals: &[Terminal], key: Key) -> Result<(Option<u64>, &[Terminal]), ReadFault>
+    ensures { MatchResult result
+        (λ x. Part (IsBound key) (key_binds key) terminals.now x.0 x.1.now)
+        (λ e. IsRefusal e → Refuses (IsBound key) (key_binds key) terminals.now) }
 {
     let Some(after) = eat(terminals, key) else {
-        return (None, terminals);
+        return Ok((None, terminals));
     };
     let Some((value, _, rest)) = number(after) else {
-        return (None, terminals);
+        return Err(ReadFault::at(after));
     };
     if value > LARGEST_BOUND {
-        return (None, terminals);
+        return Err(ReadFault::at(after));
     }
-    (Some(value), rest)
+    Ok((Some(value), rest))
 }
 
 /// `[[AS] name]`
-pub fn alias(alloc: Global, terminals: &[Terminal]) -> Result<(Option<Text>, &[Terminal]), Memory>
-    ensures { IfOk result (λ x. Part IsAlias 12 terminals.now x.0 x.1.now) }
+pub fn alias(
+    alloc: Global,
+    terminals: &[Terminal],
+) -> Result<(Option<Text>, &[Terminal]), ReadFault>
+    ensures { MatchResult result
+        (λ x. Part IsAlias 12 terminals.now x.0 x.1.now)
+        (λ e. IsRefusal e → Refuses IsAlias 12 terminals.now) }
 {
     if let Some((text, _, rest)) = name(terminals) {
         return Ok((Some(copied(alloc, text)?), rest));
@@ -91,7 +102,7 @@ pub fn alias(alloc: Global, terminals: &[Terminal]) -> Result<(Option<Text>, &[T
         return Ok((None, terminals));
     };
     let Some((text, _, rest)) = name(after) else {
-        return Ok((None, terminals));
+        return Err(ReadFault::at(after));
     };
     Ok((Some(copied(alloc, text)?), rest))
 }
@@ -101,7 +112,7 @@ pub fn clause(
     alloc: Global,
     terminals: &[Terminal],
     key: Key,
-) -> Result<(Option<OrTree>, &[Terminal]), ReadFault>
+) -> Result<(Option<Boxed<OrTree>>, &[Terminal]), ReadFault>
     requires { key_binds key < 14 }
     ensures { MatchResult result
         (λ x. Part (IsClause key) (key_binds key) terminals.now x.0 x.1.now)
@@ -110,8 +121,16 @@ pub fn clause(
     let Some(after) = eat(terminals, key) else {
         return Ok((None, terminals));
     };
-    let (value, rest) = expression(alloc, after)?;
+    let (value, rest) = boxed_expression(alloc, after)?;
     Ok((Some(value), rest))
+}
+
+/// A value under its alias.
+fn one(value: Boxed<OrTree>, alias: Option<Text>) -> ItemTree
+    ensures { result ≡ ItemTree.One value alias }
+{
+    let value = value.into_inner();
+    ItemTree::One { value, alias }
 }
 
 /// `* | name . * | or [[AS] name]`
@@ -126,9 +145,9 @@ pub fn item(alloc: Global, terminals: &[Terminal]) -> Result<(ItemTree, &[Termin
     if let Some((table, _, rest)) = name_star(terminals) {
         return Ok((ItemTree::AllOf(copied(alloc, table)?), rest));
     }
-    let (value, rest) = expression(alloc, terminals)?;
-    let (name, rest) = alias(alloc, rest)?;
-    Ok((ItemTree::One { value, alias: name }, rest))
+    let (value, rest) = boxed_expression(alloc, terminals)?;
+    let (value, (name, left)) = beside(value, alias(alloc, rest))?;
+    Ok((one(value, name), left))
 }
 
 /// `item {, item}`
@@ -140,15 +159,23 @@ pub fn items(
         (λ x. Read (Listed IsItem) 9 terminals.now x.0 x.1.now)
         (λ e. IsRefusal e → Refuses (Listed IsItem) 9 terminals.now) }
 {
-    let (first, mut rest) = item(alloc, terminals)?;
-    let mut items = Items::new(alloc);
-    items.push(first)?;
+    let (mut items, mut rest) = plain_more(Items::new(alloc), item(alloc, terminals))?;
     'more: while let Some(after) = eat(rest, Key::Comma) {
-        let (next, left) = item(alloc, after)?;
-        items.push(next)?;
-        rest = left;
+        (items, rest) = plain_more(items, item(alloc, after))?;
     }
     Ok((items, rest))
+}
+
+/// A key of ORDER BY.
+fn sort_by(value: Boxed<OrTree>, descending: bool, nulls_last: bool) -> SortTree
+    ensures { result ≡ sort_tree value descending nulls_last }
+{
+    let value = value.into_inner();
+    SortTree {
+        value,
+        descending,
+        nulls_last,
+    }
 }
 
 /// `or [ASC | DESC] [NULLS (FIRST | LAST)]`
@@ -157,15 +184,10 @@ pub fn sort(alloc: Global, terminals: &[Terminal]) -> Result<(SortTree, &[Termin
         (λ x. Read IsSort 10 terminals.now x.0 x.1.now)
         (λ e. IsRefusal e → Refuses IsSort 10 terminals.now) }
 {
-    let (value, rest) = expression(alloc, terminals)?;
+    let (value, rest) = boxed_expression(alloc, terminals)?;
     let (descending, rest) = way(rest);
-    let (nulls_last, rest) = nulls(rest, descending);
-    let sort = SortTree {
-        value,
-        descending,
-        nulls_last,
-    };
-    Ok((sort, rest))
+    let (value, (nulls_last, rest)) = beside(value, nulls(rest, descending))?;
+    Ok((sort_by(value, descending, nulls_last), rest))
 }
 
 /// `sort {, sort}`
@@ -177,13 +199,9 @@ pub fn sorts(
         (λ x. Read (Listed IsSort) 9 terminals.now x.0 x.1.now)
         (λ e. IsRefusal e → Refuses (Listed IsSort) 9 terminals.now) }
 {
-    let (first, mut rest) = sort(alloc, terminals)?;
-    let mut sorts = Items::new(alloc);
-    sorts.push(first)?;
+    let (mut sorts, mut rest) = plain_more(Items::new(alloc), sort(alloc, terminals))?;
     'more: while let Some(after) = eat(rest, Key::Comma) {
-        let (next, left) = sort(alloc, after)?;
-        sorts.push(next)?;
-        rest = left;
+        (sorts, rest) = plain_more(sorts, sort(alloc, after))?;
     }
     Ok((sorts, rest))
 }
@@ -197,9 +215,10 @@ pub fn order(
         (λ x. Part IsOrder 3 terminals.now x.0 x.1.now)
         (λ e. IsRefusal e → Refuses IsOrder 3 terminals.now) }
 {
-    let Some(after) = pair(terminals, Key::Order, Key::By) else {
+    let Some(by) = eat(terminals, Key::Order) else {
         return Ok((Items::new(alloc), terminals));
     };
+    let after = expect(by, Key::By)?;
     let (sorts, rest) = sorts(alloc, after)?;
     Ok((sorts, rest))
 }
@@ -213,15 +232,16 @@ pub fn group(
         (λ x. Part IsGroup 6 terminals.now x.0 x.1.now)
         (λ e. IsRefusal e → Refuses IsGroup 6 terminals.now) }
 {
-    let Some(after) = pair(terminals, Key::Group, Key::By) else {
+    let Some(by) = eat(terminals, Key::Group) else {
         return Ok((Items::new(alloc), terminals));
     };
+    let after = expect(by, Key::By)?;
     let (keys, rest) = expressions(alloc, after)?;
     Ok((keys, rest))
 }
 
 /// The conditions of a SELECT: of WHERE, the keys of GROUP BY, and of HAVING.
-pub type Conditions = (Option<OrTree>, Items<OrTree>, Option<OrTree>);
+pub type Conditions = (Option<Boxed<OrTree>>, Items<OrTree>, Option<Boxed<OrTree>>);
 
 /// `[WHERE or] [GROUP BY or {, or}] [HAVING or]`
 pub fn conditions(
@@ -233,23 +253,25 @@ pub fn conditions(
         (λ e. IsRefusal e → Refuses IsConditions 5 terminals.now) }
 {
     let (filter, rest) = clause(alloc, terminals, Key::Where)?;
-    let (keys, rest) = group(alloc, rest)?;
-    let (having, rest) = clause(alloc, rest, Key::Having)?;
+    let (filter, (keys, rest)) = beside(filter, group(alloc, rest))?;
+    let ((filter, keys), (having, rest)) = beside(
+        (filter, keys),
+        clause(alloc, rest, Key::Having),
+    )?;
     Ok(((filter, keys, having), rest))
 }
 
-/// `[ORDER BY sort {, sort}] [LIMIT number] [OFFSET number]` behind the body, and the query that they make of it.
-pub fn tail(
-    alloc: Global,
-    body: UnionTree,
-    terminals: &[Terminal],
-) -> Result<(QueryTree, &[Terminal]), ReadFault>
+/// What stands behind the cores of a query: the keys of ORDER BY, and the numbers of LIMIT and OFFSET.
+pub type Tail = (Items<SortTree>, Option<u64>, Option<u64>);
+
+/// `[ORDER BY sort {, sort}] [LIMIT number] [OFFSET number]`
+pub fn tail(alloc: Global, terminals: &[Terminal]) -> Result<(Tail, &[Terminal]), ReadFault>
     ensures { MatchResult result
-        (λ x. Part (IsTail body) 1 terminals.now x.0 x.1.now)
-        (λ e. IsRefusal e → Refuses (IsTail body) 1 terminals.now) }
+        (λ x. Part IsTail 1 terminals.now x.0 x.1.now)
+        (λ e. IsRefusal e → Refuses IsTail 1 terminals.now) }
 {
     let (sorts, rest) = order(alloc, terminals)?;
-    let (limit, rest) = bound(rest, Key::Limit);
-    let (offset, rest) = bound(rest, Key::Offset);
-    Ok((QueryTree::new(body, sorts, limit, offset), rest))
+    let (sorts, (limit, rest)) = beside(sorts, bound(rest, Key::Limit))?;
+    let (sorts, (offset, rest)) = beside(sorts, bound(rest, Key::Offset))?;
+    Ok(((sorts, limit, offset), rest))
 }

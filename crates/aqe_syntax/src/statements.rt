@@ -11,7 +11,6 @@ ghost use Rattle.aqe_syntax.specs.Sentences.{BeginsSet, IsSentence, Adds, HasNon
 
 use crate::queries::query;
 use crate::tables::create;
-use crate::words::refused;
 use aqe_lexer::Token;
 use aqe_reader::ReadFault;
 use aqe_reader::cursor::eat;
@@ -29,7 +28,7 @@ fn whole_query(alloc: Global, terminals: &[Terminal]) -> Result<QueryTree, ReadF
     if rest.is_empty() {
         Ok(tree)
     } else {
-        Err(refused(rest))
+        Err(ReadFault::at(rest))
     }
 }
 

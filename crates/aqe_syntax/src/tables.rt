@@ -1,17 +1,16 @@
 //! CREATE TABLE.
 
-ghost use Rattle.std.specs.Prelude.{◌≡◌, ◌∷◌, [], ◌↔◌, IsTrue, MatchOption, MatchResult, IfOk, codes, if◌then◌else◌, Some, None};
-ghost use Rattle.aqe_trees.specs.declared.terminal.Terminal;
+ghost use Rattle.std.specs.Prelude.{◌≡◌, MatchOption, MatchResult};
 ghost use Rattle.aqe_trees.specs.Lists.{Listed};
 ghost use Rattle.aqe_trees.specs.Tables.{IsColumn, IsOption, IsPlace, IsCreate};
 ghost use Rattle.aqe_trees.specs.Words as words;
 ghost use Rattle.aqe_reader.specs.Reading.{Read, Refuses, Taken, Never, IsRefusal};
-ghost use Rattle.aqe_syntax.specs.TableParts.{IsTheWord, IsType, IsHead, IsFormat, IsOptionKey, IsEqual, IsOptionValue, IsOptionsOpen, IsLocation, IsLastLocation, IsOptionsPlace, IsLateOptions};
+ghost use Rattle.aqe_syntax.specs.TableParts.{IsTheWord, IsType, IsHead, IsFormat, IsOptionKey, IsEqual, IsOptionValue, IsLocation, IsLastLocation, IsOptionsPlace, IsLateOptions};
 
-use crate::words::{copied, is_word, literal, name_open, pair, refused, word};
+use crate::words::{copied, is_word, literal, word};
 use aqe_base::Listing;
 use aqe_reader::ReadFault;
-use aqe_reader::cursor::{eat, name};
+use aqe_reader::cursor::{eat, expect, name};
 use aqe_trees::{ColumnForms, Key, OptionForms, TableForm, Terminal};
 use aqe_values::{SqlType, Text};
 use std::alloc::Global;
@@ -22,13 +21,9 @@ pub fn create(alloc: Global, terminals: &[Terminal]) -> Result<TableForm, ReadFa
         (λ form. IsCreate form terminals.now)
         (λ e. IsRefusal e → (form : _) → IsCreate form terminals.now → ⊥) }
 {
-    let Some((table, start)) = head(terminals) else {
-        return Err(refused(terminals));
-    };
+    let (table, start) = head(terminals)?;
     let (columns, behind) = columns(alloc, start)?;
-    let Some(rest) = format(behind) else {
-        return Err(refused(behind));
-    };
+    let rest = format(behind)?;
     let (options, location) = place(alloc, rest)?;
     let name = copied(alloc, table)?;
     Ok(TableForm {
@@ -55,37 +50,43 @@ fn the_word<'a>(terminals: &'a [Terminal], wanted: &str) -> Option<&'a [Terminal
     }
 }
 
-/// `CREATE TABLE name (`: the name, and what stands behind.
-fn head(terminals: &[Terminal]) -> Option<(&Text, &[Terminal])>
-    ensures { MatchOption result
-        ((name : _) (us : _) → IsHead name terminals.now us → ⊥)
-        (λ x. IsHead x.0.now terminals.now x.1.now) }
+/// What stands behind a word that is not reserved, with which alone a statement goes on here.
+fn expect_word<'a>(terminals: &'a [Terminal], wanted: &str) -> Result<&'a [Terminal], ReadFault>
+    ensures { MatchResult result
+        (λ rest. IsTheWord wanted.now terminals.now rest.now)
+        (λ e. IsRefusal e → (us : _) → IsTheWord wanted.now terminals.now us → ⊥) }
 {
-    let Some(after) = eat(terminals, Key::Create) else {
-        return None;
+    match the_word(terminals, wanted) {
+        Some(rest) => Ok(rest),
+        None => Err(ReadFault::at(terminals)),
+    }
+}
+
+/// `CREATE TABLE name (`: the name, and what stands behind.
+fn head(terminals: &[Terminal]) -> Result<(&Text, &[Terminal]), ReadFault>
+    ensures { MatchResult result
+        (λ x. IsHead x.0.now terminals.now x.1.now)
+        (λ e. IsRefusal e → (name : _) (us : _) → IsHead name terminals.now us → ⊥) }
+{
+    let after = expect(terminals, Key::Create)?;
+    let behind = expect_word(after, "table")?;
+    let Some((table, _, open)) = name(behind) else {
+        return Err(ReadFault::at(behind));
     };
-    let Some(behind) = the_word(after, "table") else {
-        return None;
-    };
-    let Some((table, _, rest)) = name_open(behind) else {
-        return None;
-    };
-    Some((table, rest))
+    let rest = expect(open, Key::Open)?;
+    Ok((table, rest))
 }
 
 /// `) USING csv`
-fn format(terminals: &[Terminal]) -> Option<&[Terminal]>
-    ensures { MatchOption result
-        ((us : _) → IsFormat terminals.now us → ⊥)
-        (λ rest. IsFormat terminals.now rest.now) }
+fn format(terminals: &[Terminal]) -> Result<&[Terminal], ReadFault>
+    ensures { MatchResult result
+        (λ rest. IsFormat terminals.now rest.now)
+        (λ e. IsRefusal e → (us : _) → IsFormat terminals.now us → ⊥) }
 {
-    let Some(after) = pair(terminals, Key::Close, Key::Using) else {
-        return None;
-    };
-    let Some(rest) = the_word(after, "csv") else {
-        return None;
-    };
-    Some(rest)
+    let close = expect(terminals, Key::Close)?;
+    let using = expect(close, Key::Using)?;
+    let rest = expect_word(using, "csv")?;
+    Ok(rest)
 }
 
 /// The type that a word names.
@@ -138,10 +139,10 @@ fn column(
         (λ e. IsRefusal e → Refuses IsColumn 10 terminals.now) }
 {
     let Some((text, _, after)) = name(terminals) else {
-        return Err(refused(terminals));
+        return Err(ReadFault::at(terminals));
     };
     let Some((kind, rest)) = type_at(after) else {
-        return Err(refused(after));
+        return Err(ReadFault::at(after));
     };
     let column = (copied(alloc, text)?, kind);
     Ok((column, rest))
@@ -204,7 +205,7 @@ fn option_value(alloc: Global, terminals: &[Terminal]) -> Result<(Text, &[Termin
     if let Some(rest) = eat(terminals, Key::False) {
         return Ok((Text::copy_of(alloc, "false")?, rest));
     }
-    Err(refused(terminals))
+    Err(ReadFault::at(terminals))
 }
 
 /// `(name | string) [=] (string | TRUE | FALSE)`
@@ -214,7 +215,7 @@ fn option(alloc: Global, terminals: &[Terminal]) -> Result<((Text, Text), &[Term
         (λ e. IsRefusal e → Refuses IsOption 10 terminals.now) }
 {
     let Some((text, after)) = option_key(terminals) else {
-        return Err(refused(terminals));
+        return Err(ReadFault::at(terminals));
     };
     let (value, rest) = option_value(alloc, behind_equal(after))?;
     let key = copied(alloc, text)?;
@@ -238,49 +239,32 @@ fn options(alloc: Global, terminals: &[Terminal]) -> Result<(OptionForms, &[Term
     Ok((options, rest))
 }
 
-/// `OPTIONS (`
-fn options_open(terminals: &[Terminal]) -> Option<&[Terminal]>
-    ensures { MatchOption result
-        ((us : _) → IsOptionsOpen terminals.now us → ⊥)
-        (λ rest. IsOptionsOpen terminals.now rest.now) }
-{
-    let Some(after) = the_word(terminals, "options") else {
-        return None;
-    };
-    let Some(rest) = eat(after, Key::Open) else {
-        return None;
-    };
-    Some(rest)
-}
-
 /// `LOCATION string`: the string, and what stands behind it.
-fn location_at(terminals: &[Terminal]) -> Option<(&Text, &[Terminal])>
-    ensures { MatchOption result
-        ((text : _) (us : _) → IsLocation text terminals.now us → ⊥)
-        (λ x. IsLocation x.0.now terminals.now x.1.now) }
+fn location_at(terminals: &[Terminal]) -> Result<(&Text, &[Terminal]), ReadFault>
+    ensures { MatchResult result
+        (λ x. IsLocation x.0.now terminals.now x.1.now)
+        (λ e. IsRefusal e → (text : _) (us : _) → IsLocation text terminals.now us → ⊥) }
 {
-    let Some(after) = the_word(terminals, "location") else {
-        return None;
-    };
+    let after = expect_word(terminals, "location")?;
     let Some((text, rest)) = literal(after) else {
-        return None;
+        return Err(ReadFault::at(after));
     };
-    Some((text, rest))
+    Ok((text, rest))
 }
 
 /// `) LOCATION string`, where nothing stands behind it.
-fn last_location(terminals: &[Terminal]) -> Option<&Text>
-    ensures { MatchOption result
-        ((text : _) → IsLastLocation text terminals.now → ⊥)
-        (λ text. IsLastLocation text.now terminals.now) }
+fn last_location(terminals: &[Terminal]) -> Result<&Text, ReadFault>
+    ensures { MatchResult result
+        (λ text. IsLastLocation text.now terminals.now)
+        (λ e. IsRefusal e → (text : _) → IsLastLocation text terminals.now → ⊥) }
 {
-    let Some(after) = eat(terminals, Key::Close) else {
-        return None;
-    };
-    let Some((text, rest)) = location_at(after) else {
-        return None;
-    };
-    if rest.is_empty() { Some(text) } else { None }
+    let after = expect(terminals, Key::Close)?;
+    let (text, rest) = location_at(after)?;
+    if rest.is_empty() {
+        Ok(text)
+    } else {
+        Err(ReadFault::at(rest))
+    }
 }
 
 /// `OPTIONS ( option {, option} )` at most once and `LOCATION string` once, in either order, and nothing behind them.
@@ -289,27 +273,24 @@ fn place(alloc: Global, terminals: &[Terminal]) -> Result<(OptionForms, Text), R
         (λ x. IsPlace x.0 x.1 terminals.now)
         (λ e. IsRefusal e → (options : _) (text : _) → IsPlace options text terminals.now → ⊥) }
 {
-    if let Some(after) = options_open(terminals) {
+    if let Some(after) = the_word(terminals, "options") {
         return options_place(alloc, after);
     }
-    let Some((text, rest)) = location_at(terminals) else {
-        return Err(refused(terminals));
-    };
+    let (text, rest) = location_at(terminals)?;
     let options = late_options(alloc, rest)?;
     let location = copied(alloc, text)?;
     Ok((options, location))
 }
 
-/// `option {, option} ) LOCATION string`, where nothing stands behind it.
+/// `( option {, option} ) LOCATION string`, where nothing stands behind it.
 fn options_place(alloc: Global, terminals: &[Terminal]) -> Result<(OptionForms, Text), ReadFault>
     ensures { MatchResult result
         (λ x. IsOptionsPlace x.0 x.1 terminals.now)
         (λ e. IsRefusal e → (options : _) (text : _) → IsOptionsPlace options text terminals.now → ⊥) }
 {
-    let (options, rest) = options(alloc, terminals)?;
-    let Some(text) = last_location(rest) else {
-        return Err(refused(rest));
-    };
+    let inside = expect(terminals, Key::Open)?;
+    let (options, rest) = options(alloc, inside)?;
+    let text = last_location(rest)?;
     let location = copied(alloc, text)?;
     Ok((options, location))
 }
@@ -323,23 +304,13 @@ fn late_options(alloc: Global, terminals: &[Terminal]) -> Result<OptionForms, Re
     if terminals.is_empty() {
         return Ok(Listing::new(alloc));
     }
-    let Some(after) = options_open(terminals) else {
-        return Err(refused(terminals));
-    };
-    let (options, rest) = options(alloc, after)?;
-    if is_close(rest) {
+    let open = expect_word(terminals, "options")?;
+    let inside = expect(open, Key::Open)?;
+    let (options, close) = options(alloc, inside)?;
+    let rest = expect(close, Key::Close)?;
+    if rest.is_empty() {
         Ok(options)
     } else {
-        Err(refused(rest))
-    }
-}
-
-/// Whether `)` alone is there.
-fn is_close(terminals: &[Terminal]) -> bool
-    ensures { IsTrue result ↔ (terminals.now ≡ Terminal.Fixed Key.Close ∷ []) }
-{
-    match eat(terminals, Key::Close) {
-        Some(rest) => rest.is_empty(),
-        None => false,
+        Err(ReadFault::at(rest))
     }
 }

@@ -4,18 +4,10 @@ ghost use Rattle.std.specs.Prelude.{◌≡◌, ◌∷◌, MatchOption, IfOk, fal
 ghost use Rattle.aqe_trees.specs.declared.terminal.Terminal;
 ghost use Rattle.aqe_trees.specs.Words as words;
 
-use aqe_reader::ReadFault;
 use aqe_reader::cursor::{eat, name, next};
 use aqe_trees::{Key, Terminal};
 use aqe_values::{Memory, Text};
 use std::alloc::Global;
-
-/// The fault of a reader that stops before these terminals.
-pub fn refused(terminals: &[Terminal]) -> ReadFault {
-    ReadFault::Refused {
-        left: terminals.len(),
-    }
-}
 
 /// What stands behind two words or symbols, where they come first.
 pub fn pair(terminals: &[Terminal], first: Key, second: Key) -> Option<&[Terminal]>
@@ -77,17 +69,6 @@ pub fn literal(terminals: &[Terminal]) -> Option<(&Text, &[Terminal])>
         Some((Terminal::Literal(text), rest)) => Some((text, rest)),
         _ => None,
     }
-}
-
-/// The name that comes first, with a parenthesis that opens behind it, and what stands behind that.
-pub fn name_open(terminals: &[Terminal]) -> Option<(&Text, bool, &[Terminal])>
-    ensures { MatchOption result
-        ((text : _) (quoted : _) (us : _) → terminals.now ≡ Terminal.Name text quoted ∷ Terminal.Fixed Key.Open ∷ us → ⊥)
-        (λ x. terminals.now ≡ Terminal.Name x.0.now x.1 ∷ Terminal.Fixed Key.Open ∷ x.2.now) }
-{
-    let (text, quoted, rest) = name(terminals)?;
-    let rest = eat(rest, Key::Open)?;
-    Some((text, quoted, rest))
 }
 
 /// A copy of the text.

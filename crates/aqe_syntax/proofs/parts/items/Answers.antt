@@ -1,18 +1,20 @@
-use Rattle.aqe_syntax.proofs.Chain.{listed_begin, listed_step, listed_done, listed_stuck, listed_refused}
+use Rattle.std.proofs.Common.{refl}
 use Rattle.std.proofs.lemmas.Result.{err_from_is_err_and}
+use Rattle.aqe_reader.proofs.Outcomes.{ok_of, err_of}
+use Rattle.aqe_syntax.proofs.Chain.{listed_begin, listed_step, listed_done, listed_stuck, listed_refused}
 use Rattle.aqe_syntax.proofs.parts.items.Goals as goal
 
 pub more-init : goal.more-init
-more-init c = listed_begin c.in_ok-first.ensures (rw c.in_ok-push.ensures.ok (rw c.new-items.ensures))
+more-init c = let h = c.in_ok-items.ensures in listed_begin (ok_of _ _ c.item.ensures h.1) (rw (h.2, c.new.ensures) refl)
 
 pub more-preserved : goal.more-preserved
-more-preserved c = listed_step c.more.invariant c.in-Some.ensures c.in_ok-next.ensures c.in_ok-push-2.ensures.ok
+more-preserved c = let h = c.in_ok-items-2.ensures in listed_step c.more.invariant c.in-Some.ensures (ok_of _ _ c.item-in-Some.ensures h.1) h.2
 
 pub returns : goal.returns
 returns c = listed_done c.more.invariant c.in_default.ensures
 
-pub returns-in_err-first : goal.returns-in_err-first
-returns-in_err-first c = let p = err_from_is_err_and c.from_residual.result c.from_residual.ensures.1 in rw (p.1, p.2) (λ r. listed_refused (c.in_err-first.ensures r))
+pub returns-in_err-items : goal.returns-in_err-items
+returns-in_err-items c = let p = err_from_is_err_and c.from_residual.result c.from_residual.ensures.1 in rw (p.1, p.2) (λ r. listed_refused (err_of _ _ c.item.ensures (c.in_err-items.ensures r) r))
 
-pub returns-in_err-next : goal.returns-in_err-next
-returns-in_err-next c = let p = err_from_is_err_and c.from_residual-in_err-next.result c.from_residual-in_err-next.ensures.1 in rw (p.1, p.2) (λ r. listed_stuck c.more.invariant c.in-Some.ensures (c.in_err-next.ensures r))
+pub returns-in_err-items-2 : goal.returns-in_err-items-2
+returns-in_err-items-2 c = let p = err_from_is_err_and c.from_residual-in_err-items-2.result c.from_residual-in_err-items-2.ensures.1 in rw (p.1, p.2) (λ r. listed_stuck c.more.invariant c.in-Some.ensures (err_of _ _ c.item-in-Some.ensures (c.in_err-items-2.ensures r) r))

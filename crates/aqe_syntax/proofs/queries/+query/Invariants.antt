@@ -2,8 +2,8 @@ use Rattle.std.proofs.Common.{◌+◌, ◌*◌, length}
 use Rattle.aqe_syntax.proofs.Rules.{CoresSoFar, FromSoFar, JoinedSoFar}
 use Rattle.aqe_syntax.proofs.queries.+query.Given as goal
 
-abbrev pub decreases-query : goal.decreases-query
-decreases-query l = 16 * length l.terminals.now + 6
+abbrev pub decreases-boxed_query : goal.decreases-boxed_query
+decreases-boxed_query l = 16 * length l.terminals.now + 6
 
 abbrev pub decreases-union : goal.decreases-union
 decreases-union l = 16 * length l.terminals.now + 5
@@ -25,6 +25,9 @@ decreases-from l = 16 * length l.terminals.now + 2
 
 abbrev pub decreases-joined : goal.decreases-joined
 decreases-joined l = 16 * length l.terminals.now + 1
+
+abbrev pub decreases-step : goal.decreases-step
+decreases-step l = 16 * length l.terminals.now + 1
 
 abbrev pub decreases-source : goal.decreases-source
 decreases-source l = 16 * length l.terminals.now + 0

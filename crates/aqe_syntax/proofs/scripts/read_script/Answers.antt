@@ -11,7 +11,7 @@ pub add-requires : goal.add-requires
 add-requires c = record { stand = c.cut.ensures.part; order = (c.cut.ensures.order c.parts.invariant.2).0; size = c.requires.size }
 
 pub placed-requires : goal.placed-requires
-placed-requires c = c.parts.invariant.1
+placed-requires c = c.requires.stand
 
 pub returns-in-Err : goal.returns-in-Err
 returns-in-Err c = script_fault c.args.source.now c.args.tokens.now c.placed.result c.in-Err.fault c.cut.result.1 c.parts.invariant.0 c.cut.ensures.parts c.in-Err.ensures c.placed.ensures
