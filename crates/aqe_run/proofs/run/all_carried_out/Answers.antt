@@ -10,14 +10,14 @@ pub statements-init : goal.statements-init
 statements-init g c =
     let none : length c.new-made.result.catalog ≡ 0 = ap (λ (s : State). length s.catalog) c.new-made.ensures in
     rw c.new-made.ensures (record {
-  keeps = search rules;
-  faults = refl;
-  misses = refl;
-  written = refl;
-  so_far = begun_told (g.S.Store.files c.args.store.now) c.args.script.now (g.O.Sink.taken c.args.out.now);
-  built = c.requires.built;
-  few = omega (arith, none);
-})
+      keeps = search rules;
+      faults = refl;
+      misses = refl;
+      written = refl;
+      so_far = begun_told (g.S.Store.files c.args.store.now) c.args.script.now (g.O.Sink.taken c.args.out.now);
+      built = c.requires.built;
+      few = omega (arith, none);
+    })
 
 pub returns-in_err-carried_out-clause-early : goal.returns-in_err-carried_out-clause-early
 returns-in_err-carried_out-clause-early g c =
