@@ -4,6 +4,7 @@ use Rattle.std.specs.Prelude.{All, IfOk, IfErr, IfSome, OnOk}
 use Rattle.std.specs.Io.KnownBytes.{Appends}
 use Rattle.std.proofs.lemmas.List.{length-map}
 use Rattle.std.proofs.lemmas.List.Elements.{All-weaker}
+use Rattle.std.proofs.lemmas.Result.{IfErr-at_err}
 use Rattle.aqe_base.specs.declared.status.Status.{Status}
 use Rattle.aqe_base.specs.declared.status.Status.TheVariants as status
 use Rattle.aqe_values.specs.Bounds.{text_limit}
@@ -147,3 +148,7 @@ create_written None now next one form a (Ok u) e h = tt
 create_written (Some files) now next one form a (Ok u) e h =
     record { answered = []; is = subst (λ o. IsCarriedOut files now o next []) (sym e) h; writes = writes_none a }
 create_written told now next one form a (Err end) e h = tt
+
+-- an error is the same error in a result of another type
+pub err_of : {A B E : Type 0} {x y : E} → ◌≡◌ {A = Result A E} (Err x) (Err y) → ◌≡◌ {A = Result B E} (Err x) (Err y)
+err_of {y = y} e = ap Err (IfErr-at_err (λ z. z ≡ y) (sym e) refl)

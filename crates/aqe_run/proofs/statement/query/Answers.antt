@@ -1,5 +1,5 @@
 use Rattle.std.proofs.lemmas.Result.{err_from_is_err_and}
-use Rattle.aqe_run.proofs.RunFacts.{query_half, query_written}
+use Rattle.aqe_run.proofs.RunFacts.{err_of, query_half, query_written}
 use Rattle.aqe_run.specs.Steps.{state_of}
 use Rattle.aqe_run.proofs.statement.query.Goals as goal
 
@@ -16,4 +16,4 @@ returns-clause-front g c e =
 pub returns-in_err-text-clause-reads : goal.returns-in_err-text-clause-reads
 returns-in_err-text-clause-reads g c e =
     let p = err_from_is_err_and c.from_residual.result c.from_residual.ensures.1 in
-    c.in_err-text.ensures.reads (rw (p.1, p.2) at e)
+    c.in_err-text.ensures.reads (err_of (rw (p.1, p.2) at e))
