@@ -16,6 +16,4 @@ mod sources;
 #[cfg(test)]
 mod tables;
 #[cfg(test)]
-mod tokens;
-#[cfg(test)]
 mod values;
