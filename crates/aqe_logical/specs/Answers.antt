@@ -2,6 +2,7 @@
 use Rattle.std.specs.Prelude.{◌≡◌, ℕ, ◌-◌, ◌⊎◌, Bool, List, [], ◌∷◌, ◌++◌, map, filter, flat_map, take, drop, length, Option, Some, None, slice_index_or, IsPermutation}
 use Rattle.aqe_values.specs.declared.value.Value.{Value}
 use Rattle.aqe_expr.specs.declared.expr.Expr.{Expr}
+use Rattle.aqe_values.specs.KeyOrder.{InOrder}
 use Rattle.aqe_expr.specs.Meaning.{holds}
 use Rattle.aqe_logical.specs.declared.plan.Placement.{Placement}
 use Rattle.aqe_logical.specs.declared.plan.Placement.TheVariants as place
@@ -10,7 +11,7 @@ use Rattle.aqe_logical.specs.Shapes.{filtered, projected, joined, aggregated, un
 use Rattle.aqe_logical.specs.Columns.{width}
 use Rattle.aqe_logical.specs.Groups.{row_of, group_rows, finish_rows}
 use Rattle.aqe_logical.specs.Joins.{pairs}
-use Rattle.aqe_logical.specs.Order.{before, InOrder}
+use Rattle.aqe_logical.specs.Order.{before}
 
 abbrev pub Row : Type 0
 Row = List Value

@@ -1,27 +1,23 @@
 -- The order of rows under sort keys.
-use Rattle.std.specs.Prelude.{Bool, true, false, List, [], ◌∷◌, All, ◌≡◌}
-use Rattle.std.specs.Ordering.{ordering_then}
+use Rattle.std.specs.Prelude.{Bool, List, map}
 use Rattle.std.specs.declared.cmp.Ordering.{Ordering}
-use Rattle.std.specs.declared.cmp.Ordering.TheVariants.{Less, Equal}
 use Rattle.aqe_values.specs.declared.value.Value.{Value}
-use Rattle.aqe_values.specs.Order.{way_cmp}
+use Rattle.aqe_values.specs.declared.sort_way.SortWay.{SortWay}
+use Rattle.aqe_values.specs.KeyOrder.{key_order, key_before}
 use Rattle.aqe_expr.specs.Meaning.{val}
 use Rattle.aqe_logical.specs.declared.plan.SortKey.{SortKey}
 
--- the first key at which two rows differ decides; rows that differ at none are equal
-abbrev pub row_order : List SortKey → List Value → List Value → Ordering
-row_order [] x y = Equal
-row_order (key ∷ keys) x y = ordering_then (way_cmp key.way (val x key.expr) (val y key.expr)) (row_order keys x y)
+-- the ways of sort keys, and the key row of a row: the values of the keys, in their order
+abbrev pub ways_of : List SortKey → List SortWay
+ways_of keys = map (λ key. key.way) keys
 
-abbrev pub is_before : Ordering → Bool
-is_before Less = true
-is_before order = false
+abbrev pub key_of : List SortKey → List Value → List Value
+key_of keys row = map (λ key. val row key.expr) keys
+
+-- rows compare as their key rows do: the first key in which they differ decides, by its way
+abbrev pub row_order : List SortKey → List Value → List Value → Ordering
+row_order keys x y = key_order (ways_of keys) (key_of keys x) (key_of keys y)
 
 -- whether a row comes strictly before another
 abbrev pub before : List SortKey → List Value → List Value → Bool
-before keys x y = is_before (row_order keys x y)
-
--- no later row comes strictly before an earlier one
-abbrev pub InOrder : (List Value → List Value → Bool) → List (List Value) → Type 0
-InOrder less [] = Unit {0}
-InOrder less (x ∷ xs) = All (λ y. less y x ≡ false) xs × InOrder less xs
+before keys x y = key_before (ways_of keys) (key_of keys) x y

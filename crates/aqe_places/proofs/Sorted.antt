@@ -4,7 +4,7 @@ use Rattle.std.specs.Prelude.{filter, All, IsPermutation}
 use Rattle.std.proofs.lemmas.List.Elements.{All-nil, All-cons, All-head, All-tail}
 use Rattle.std.proofs.lemmas.List.Sorted.{IsPermutation-refl, IsPermutation-trans, IsPermutation-cons, IsPermutation-middle, IsPermutation-sym}
 use Rattle.aqe_logical.specs.Answers.{Row}
-use Rattle.aqe_logical.specs.Order.{InOrder}
+use Rattle.aqe_values.specs.KeyOrder.{InOrder}
 use Rattle.aqe_places.specs.Sorting.{put_in, stable_sort}
 use Rattle.aqe_places.specs.Laws.{IsOrder, SortsKeepTheRows, SortsOrderTheRows, SortsAreStable}
 

@@ -1,11 +1,14 @@
 -- The laws of exchanges, sorts and ranges.
 use Rattle.std.specs.Prelude.{◌≡◌, ℕ, ◌<◌, ◌+◌, Bool, true, false, List, [], ◌∷◌, filter, flat_map, length, All, IsPermutation}
 use Rattle.aqe_logical.specs.Answers.{Row}
-use Rattle.aqe_values.specs.KeyOrder.{key_order}
+use Rattle.std.specs.Ordering.{ordering_then}
+use Rattle.aqe_values.specs.Order.{way_cmp}
+use Rattle.aqe_values.specs.KeyOrder.{InOrder}
+use Rattle.aqe_expr.specs.Meaning.{val}
 use Rattle.aqe_logical.specs.declared.plan.SortKey.{SortKey}
-use Rattle.aqe_logical.specs.Order.{InOrder, row_order, before}
+use Rattle.aqe_logical.specs.Order.{row_order, before}
 use Rattle.aqe_places.specs.Places.{by_range, exchanged}
-use Rattle.aqe_places.specs.Sorting.{stable_sort, ways_of, key_of}
+use Rattle.aqe_places.specs.Sorting.{stable_sort}
 
 -- where each row's place is that of a part, the parts have the rows that came in
 abbrev pub ExchangesKeepTheRows : Type 0
@@ -46,9 +49,10 @@ SortsAreStable =
     (less : Row → Row → Bool) (tied : Row → Bool) (rows : List Row) → ((x y : Row) → tied x ≡ true → tied y ≡ true → less x y ≡ false) →
     filter tied (stable_sort less rows) ≡ filter tied rows
 
--- the order under sort keys is the order of key rows under the keys' ways
-abbrev pub SortKeysCompareKeyRows : Type 0
-SortKeysCompareKeyRows = (keys : List SortKey) (x y : Row) → row_order keys x y ≡ key_order (ways_of keys) (key_of keys x) (key_of keys y)
+-- of two rows the first sort key by which they differ decides, by its way
+abbrev pub SortKeysDecideInTurn : Type 0
+SortKeysDecideInTurn = (key : SortKey) (keys : List SortKey) (x y : Row) →
+    row_order (key ∷ keys) x y ≡ ordering_then (way_cmp key.way (val x key.expr) (val y key.expr)) (row_order keys x y)
 
 -- the test of a sort by keys orders
 abbrev pub SortKeysOrder : Type 0

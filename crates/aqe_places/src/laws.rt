@@ -1,6 +1,6 @@
 //! Laws of the definitions, each the contract of a function that does nothing.
 
-ghost use Rattle.aqe_places.specs.Laws.{ExchangesKeepTheRows, ExchangesPlaceTheRows, RangePlacesAreParts, SortKeysCompareKeyRows, SortKeysOrder, SortsAreStable, SortsKeepTheRows, SortsOrderTheRows};
+ghost use Rattle.aqe_places.specs.Laws.{ExchangesKeepTheRows, ExchangesPlaceTheRows, RangePlacesAreParts, SortKeysDecideInTurn, SortKeysOrder, SortsAreStable, SortsKeepTheRows, SortsOrderTheRows};
 
 /// The parts of an exchange have the rows that came in.
 pub fn exchanges_keep_the_rows()
@@ -32,9 +32,9 @@ pub fn sorts_are_stable()
     ensures { SortsAreStable }
 {}
 
-/// The order under sort keys is the order of key rows under the keys' ways.
-pub fn sort_keys_compare_key_rows()
-    ensures { SortKeysCompareKeyRows }
+/// Of two rows the first sort key by which they differ decides, by its way.
+pub fn sort_keys_decide_in_turn()
+    ensures { SortKeysDecideInTurn }
 {}
 
 /// The test of a sort by keys orders, so its sorted lists are in order.
