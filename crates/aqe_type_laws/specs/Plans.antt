@@ -4,13 +4,17 @@ use Rattle.aqe_values.specs.declared.schema.Field.{Field}
 use Rattle.aqe_logical.specs.declared.plan.Logical.{Logical, OneRow, Scan, Empty, Held, HeldPartial}
 use Rattle.aqe_logical.specs.Shapes.{filtered, projected, joined, aggregated, united, sorted, limited, sampled}
 use Rattle.aqe_logical.specs.Columns.{schema_of}
-use Rattle.aqe_logical.specs.Answers.{Tables, Row, table_rows}
+use Rattle.aqe_logical.specs.Answers.{Tables, Row, AnswerOf, table_rows}
 use Rattle.aqe_logical.specs.Groups.{row_of, call_value}
 use Rattle.aqe_type_laws.specs.Fits.{FitsColumns}
 
 -- rows of these columns
 abbrev pub FitColumns : List Field → List Row → Type 0
 FitColumns columns rows = All (FitsColumns columns) rows
+
+-- a plan answers with rows that fit its columns
+abbrev pub AnswersFit : Tables → Logical → Type 0
+AnswersFit tables plan = (l : List Row) → AnswerOf tables plan l → FitColumns (schema_of plan) l
 
 -- Over rows below that fit their columns, the items of a Project, and the keys and calls of an Aggregate, have values of their
 -- columns; and the right side of a Union fits the columns of the left one. The other forms ask nothing of their own.
