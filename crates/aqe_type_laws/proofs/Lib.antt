@@ -9,3 +9,5 @@ pub mod GroupedValues
 pub mod SelectsTyped
 pub mod GroupsTyped
 pub mod PlansTyped
+pub mod UnionsTyped
+pub mod QueriesTyped
