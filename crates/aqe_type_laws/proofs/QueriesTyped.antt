@@ -52,7 +52,7 @@ gives_both P Q (Ok t) h k = (h, k)
 gives_both P Q (Err check) h k = tt
 
 -- whatever the first step gives
-gives_after : {T U : Type 0} (Q : U → Type 0) (o : Outcome T) (next : T → Outcome U) → ((t : T) → Gives Q (next t)) → Gives Q (upon o next)
+pub gives_after : {T U : Type 0} (Q : U → Type 0) (o : Outcome T) (next : T → Outcome U) → ((t : T) → Gives Q (next t)) → Gives Q (upon o next)
 gives_after Q o next k = gives_upon (λ t. Unit {0}) Q o next (gives_all (λ t. Unit {0}) (λ t. tt) o) (λ t u. k t)
 
 -- rows of items
