@@ -17,8 +17,9 @@ use Rattle.aqe_logical.specs.Answers.{Tables, Row, AnswerOf, table_rows, meets, 
 use Rattle.aqe_logical.specs.Columns.{width, schema_of, shows_right}
 use Rattle.aqe_logical.specs.Groups.{row_of, distinct, group_keys, group_rows, rows_with, call_value}
 use Rattle.aqe_logical.specs.Joins.{nulls, where_none, with_matches, left_over, half, pairs}
+use Rattle.aqe_laws.specs.Scans.{scanned_tables}
 use Rattle.aqe_type_laws.specs.Fits.{FitsColumns}
-use Rattle.aqe_type_laws.specs.Plans.{FitColumns, AnswersFit}
+use Rattle.aqe_type_laws.specs.Plans.{FitColumns, AnswersFit, FitsItsRows, ScansFit}
 
 -- rows side by side, and rows of NULLs
 pub beside : (a b : List Field) (x y : Row) → FitsColumns a x → FitsColumns b y → FitsColumns (a ++ b) (x ++ y)
@@ -107,6 +108,15 @@ at_most-all : (P : Row → Type 0) (count : Option ℕ) (rows : List Row) → Al
 at_most-all P None rows h = h
 at_most-all P (Some n) rows h = All-take P n rows h
 
+-- over the scans of two sides
+left_scans : {X : Type 0} (P : X → Type 0) (xs ys : List X) → All P (xs ++ ys) → All P xs
+left_scans P [] ys h = All-nil P
+left_scans P (x ∷ xs) ys h = All-cons P x xs (All-head P x (xs ++ ys) h) (left_scans P xs ys (All-tail P x (xs ++ ys) h))
+
+right_scans : {X : Type 0} (P : X → Type 0) (xs ys : List X) → All P (xs ++ ys) → All P ys
+right_scans P [] ys h = h
+right_scans P (x ∷ xs) ys h = right_scans P xs ys (All-tail P x (xs ++ ys) h)
+
 -- Each form of a plan: what its answers' rows are, where those of the plans within it are so.
 module _ (tables : Tables) where
   abbrev pub AnswersAre : (Row → Type 0) → Logical → Type 0
@@ -115,8 +125,14 @@ module _ (tables : Tables) where
   pub one_row-fits : AnswersFit tables OneRow
   one_row-fits l h = rw h (one-fits [] [] tt)
 
-  pub scan-fits : (table : ℕ) (schema : List Field) → FitColumns schema (table_rows tables table) → AnswersFit tables (Scan table schema)
-  scan-fits table schema f l h = All-permutation (FitsColumns schema) (table_rows tables table) l h f
+  pub scan-fits : (table : ℕ) (schema : List Field) → ScansFit tables (Scan table schema) → AnswersFit tables (Scan table schema)
+  scan-fits table schema f l h = All-permutation (FitsColumns schema) (table_rows tables table) l h (All-head (FitsItsRows tables) (table, schema) [] f)
+
+  pub left-fit : (left right : Logical) → All (FitsItsRows tables) (scanned_tables left ++ scanned_tables right) → ScansFit tables left
+  left-fit left right f = left_scans (FitsItsRows tables) (scanned_tables left) (scanned_tables right) f
+
+  pub right-fit : (left right : Logical) → All (FitsItsRows tables) (scanned_tables left ++ scanned_tables right) → ScansFit tables right
+  right-fit left right f = right_scans (FitsItsRows tables) (scanned_tables left) (scanned_tables right) f
 
   pub filtered-are : (Q : Row → Type 0) (condition : Expr) (child : Logical) → AnswersAre Q child → AnswersAre Q (filtered condition child)
   filtered-are Q condition child f l (rows, h, e) = rw e (All-filter (holds condition) Q rows (f rows h))

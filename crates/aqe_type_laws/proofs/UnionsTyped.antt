@@ -13,6 +13,7 @@ use Rattle.aqe_logical.specs.Shapes.{projected, united}
 use Rattle.aqe_logical.specs.Answers.{Tables, Row}
 use Rattle.aqe_logical.specs.Columns.{schema_of, width}
 use Rattle.aqe_logical.specs.Groups.{row_of}
+use Rattle.aqe_logical.proofs.Nodes.{Each}
 use Rattle.aqe_rules.specs.Outcomes.{refused, upon, provided, present}
 use Rattle.aqe_rules.specs.Kinds.{common, is_same_kind}
 use Rattle.aqe_rules.specs.Operations.{typed, mismatch}
@@ -28,7 +29,7 @@ use Rattle.aqe_type_laws.specs.Plans.{AnswersFit}
 use Rattle.aqe_type_laws.proofs.Values.{same_kind}
 use Rattle.aqe_type_laws.proofs.OperationsTyped.{either_known, converted-typed}
 use Rattle.aqe_type_laws.proofs.ExpressionsTyped.{types}
-use Rattle.aqe_type_laws.proofs.FormsTyped.{united-fits}
+use Rattle.aqe_type_laws.proofs.FormsTyped.{left-fit, right-fit, united-fits}
 use Rattle.aqe_type_laws.proofs.GroupedValues.{from_here, one_on}
 use Rattle.aqe_type_laws.proofs.PlansTyped.{Good, good-holds, projected-good, distinct-good}
 
@@ -119,8 +120,10 @@ limits-keep P p h = gives_weaker (λ q. P q × Bounded q) P (λ q k. k.0) (withi
 module _ (tables : Tables) where
   united-good : (left right : Logical) → ((row : Row) → FitsColumns (schema_of right) row → FitsColumns (schema_of left) row) → Good tables left → Good tables right → Good tables (united left right)
   united-good left right like g h s =
-      let fits : AnswersFit tables (united left right) = united-fits tables left right like (g s.0).1 (h s.1).1 in
-      ((fits, (g s.0).0, (h s.1).0), fits)
+      let a : Each (AnswersFit tables) left × AnswersFit tables left = g (left-fit tables left right s) in
+      let b : Each (AnswersFit tables) right × AnswersFit tables right = h (right-fit tables left right s) in
+      let fits : AnswersFit tables (united left right) = united-fits tables left right like a.1 b.1 in
+      ((fits, a.0, b.0), fits)
 
   pub union-good : (distinct : Bool) (left right : Logical) → Good tables left → Good tables right → Gives (Good tables) (union_of distinct left right)
   union-good distinct left right g h =

@@ -4,7 +4,7 @@ use Rattle.std.specs.Prelude.{All}
 use Rattle.std.specs.Option.{unwrap_or}
 use Rattle.std.proofs.lemmas.List.{append-nil}
 use Rattle.std.proofs.lemmas.Grind.{flat_map-append}
-use Rattle.std.proofs.lemmas.List.Elements.{All-head, All-tail, All-map}
+use Rattle.std.proofs.lemmas.List.Elements.{All-head, All-tail, All-map, All-weaker}
 use Rattle.aqe_base.specs.declared.join_kind.JoinKind.{JoinKind}
 use Rattle.aqe_base.specs.declared.join_kind.JoinKind.TheVariants.{Cross}
 use Rattle.aqe_values.specs.declared.schema.Field.{Field}
@@ -13,6 +13,7 @@ use Rattle.aqe_logical.specs.declared.plan.Logical.{Logical, OneRow, Scan}
 use Rattle.aqe_logical.specs.Shapes.{joined, limited}
 use Rattle.aqe_logical.specs.Answers.{Tables, Row}
 use Rattle.aqe_logical.specs.Columns.{schema_of, shows_right}
+use Rattle.aqe_logical.proofs.Nodes.{Each, all_nodes}
 use Rattle.aqe_trees.specs.declared.expression.OrTree.{OrTree}
 use Rattle.aqe_trees.specs.declared.query.QueryTree.{QueryTree}
 use Rattle.aqe_trees.specs.declared.query.CoreTree.{CoreTree}
@@ -26,13 +27,16 @@ use Rattle.aqe_rules.specs.Sources.{Catalog, Item, From, item, from_of, numbered
 use Rattle.aqe_rules.specs.Selects.{is_empty}
 use Rattle.aqe_rules.specs.Plans.{sortings, keys_of, sorted_by, no_hidden, ordered}
 use Rattle.aqe_rules.specs.Unions.{union_of}
-use Rattle.aqe_rules.specs.Analysis.{select_over, Core, unite_all, union_rule, bounded, cut, rules, walk}
+use Rattle.aqe_rules.specs.Analysis.{Analysed, select_over, Core, unite_all, union_rule, bounded, cut, rules, walk}
 use Rattle.aqe_rules.proofs.Gives.{Gives, gives_upon}
 use Rattle.aqe_rules.proofs.QueryLevels as level
+use Rattle.aqe_laws.specs.Scans.{scanned_tables, HasItsColumns}
+use Rattle.aqe_laws.proofs.Scans.{of_the_catalog}
 use Rattle.aqe_type_laws.specs.Fits.{FitsColumns}
-use Rattle.aqe_type_laws.specs.Plans.{AnswersFit}
+use Rattle.aqe_type_laws.specs.Plans.{AnswersFit, FitsItsRows, ScansFit, TablesFit}
+use Rattle.aqe_type_laws.specs.Laws.{PlansAreTyped, NodesAreTyped, TablesFitTheScans}
 use Rattle.aqe_type_laws.proofs.EachQuery.{Parts, each_query}
-use Rattle.aqe_type_laws.proofs.FormsTyped.{one_row-fits, scan-fits, joined-fits, limited-are}
+use Rattle.aqe_type_laws.proofs.FormsTyped.{one_row-fits, scan-fits, left-fit, right-fit, joined-fits, limited-are}
 use Rattle.aqe_type_laws.proofs.GroupsTyped.{fields}
 use Rattle.aqe_type_laws.proofs.PlansTyped.{Good, sorted-good}
 use Rattle.aqe_type_laws.proofs.UnionsTyped.{limits-keep, union-good}
@@ -62,8 +66,10 @@ module _ (tables : Tables) where
 
   joined-good : (kind : JoinKind) (condition : Expr) (left right : Logical) → G left → G right → G (joined kind condition left right)
   joined-good kind condition left right g h s =
-      let fits : AnswersFit tables (joined kind condition left right) = joined-fits tables kind condition left right (g s.0).1 (h s.1).1 in
-      ((fits, (g s.0).0, (h s.1).0), fits)
+      let a : Each (AnswersFit tables) left × AnswersFit tables left = g (left-fit tables left right s) in
+      let b : Each (AnswersFit tables) right × AnswersFit tables right = h (right-fit tables left right s) in
+      let fits : AnswersFit tables (joined kind condition left right) = joined-fits tables kind condition left right a.1 b.1 in
+      ((fits, a.0, b.0), fits)
 
   join-typed : (kind : JoinKind) (on : Option OrTree) (l r : From) → F l → F r → Gives F (join kind on l r)
   join-typed kind on l r (g, e) (h, f) =
@@ -172,3 +178,17 @@ module _ (tables : Tables) where
   pub walk-typed : (t : QueryTree) → QueryTyped (walk t)
   walk-typed = each_query (λ t. CoreTyped (made_of_core rules t)) (λ t. SourceTyped (made_of_source rules t)) (λ t. StepTyped (made_of_step rules t)) (λ t. SourceTyped (made_of_joined rules t))
       (λ t. QueryTyped (made_of_query rules t)) (λ t. CoreTyped (made_of_select rules t)) (λ t. CoreTyped (made_of_union rules t)) parts-typed
+
+-- the laws
+typed-plan : (tree : QueryTree) (catalog : Catalog) (plan : Logical) (tables : Tables) → Analysed tree catalog plan → Good tables plan
+typed-plan tree catalog plan tables e = subst (Gives (Good tables)) e (walk-typed tables tree catalog)
+
+pub plans_typed : PlansAreTyped
+plans_typed tree catalog plan tables e f = (typed-plan tree catalog plan tables e f).1
+
+pub nodes_typed : NodesAreTyped
+nodes_typed tree catalog plan tables e f = all_nodes (AnswersFit tables) plan (typed-plan tree catalog plan tables e f).0
+
+pub tables_fit : TablesFitTheScans
+tables_fit tree catalog plan tables e f =
+    All-weaker (HasItsColumns catalog) (FitsItsRows tables) (λ scan has. f scan.0 scan.1 has) (scanned_tables plan) (of_the_catalog tree catalog plan e)

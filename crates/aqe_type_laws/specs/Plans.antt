@@ -1,11 +1,13 @@
 -- Plans whose nodes give what their columns say.
-use Rattle.std.specs.Prelude.{List, ◌++◌, All, map}
+use Rattle.std.specs.Prelude.{ℕ, List, ◌++◌, All, map}
 use Rattle.aqe_values.specs.declared.schema.Field.{Field}
 use Rattle.aqe_logical.specs.declared.plan.Logical.{Logical, OneRow, Scan, Empty, Held, HeldPartial}
 use Rattle.aqe_logical.specs.Shapes.{filtered, projected, joined, aggregated, united, sorted, limited, sampled}
 use Rattle.aqe_logical.specs.Columns.{schema_of}
 use Rattle.aqe_logical.specs.Answers.{Tables, Row, AnswerOf, table_rows}
 use Rattle.aqe_logical.specs.Groups.{row_of, call_value}
+use Rattle.aqe_rules.specs.Sources.{Catalog}
+use Rattle.aqe_laws.specs.Scans.{scanned_tables, HasItsColumns}
 use Rattle.aqe_type_laws.specs.Fits.{FitsColumns}
 
 -- rows of these columns
@@ -37,15 +39,14 @@ KeepsTypes (Held stage place schema) = ⊥
 KeepsTypes (HeldPartial stage calls schema) = ⊥
 KeepsTypes (sampled stage child) = ⊥
 
--- the rows of each table that a plan scans fit the columns of the scan
+-- the rows of a scanned table fit the columns of the scan
+abbrev pub FitsItsRows : Tables → (ℕ × List Field) → Type 0
+FitsItsRows tables scan = FitColumns scan.1 (table_rows tables scan.0)
+
+-- so they do for each table that a plan scans
 abbrev pub ScansFit : Tables → Logical → Type 0
-ScansFit tables (Scan table schema) = FitColumns schema (table_rows tables table)
-ScansFit tables (filtered condition child) = ScansFit tables child
-ScansFit tables (projected items schema child) = ScansFit tables child
-ScansFit tables (joined kind condition left right) = ScansFit tables left × ScansFit tables right
-ScansFit tables (aggregated keys calls schema child) = ScansFit tables child
-ScansFit tables (united left right) = ScansFit tables left × ScansFit tables right
-ScansFit tables (sorted keys child) = ScansFit tables child
-ScansFit tables (limited count skip child) = ScansFit tables child
-ScansFit tables (sampled stage child) = ScansFit tables child
-ScansFit tables leaf = Unit {0}
+ScansFit tables plan = All (FitsItsRows tables) (scanned_tables plan)
+
+-- the rows of each table of a catalog fit the columns that the catalog has of it
+abbrev pub TablesFit : Catalog → Tables → Type 0
+TablesFit catalog tables = (table : ℕ) (columns : List Field) → HasItsColumns catalog (table, columns) → FitColumns columns (table_rows tables table)
