@@ -1,9 +1,8 @@
 -- What a plan answers fits its columns, where its nodes give what their columns say.
-use Rattle.std.proofs.Common.{List}
 use Rattle.std.proofs.lemmas.List.Elements.{All-nil}
 use Rattle.aqe_logical.specs.declared.plan.Logical.{Logical, OneRow, Scan, Empty, Held, HeldPartial}
 use Rattle.aqe_logical.specs.Shapes.{filtered, projected, joined, aggregated, united, sorted, limited, sampled}
-use Rattle.aqe_logical.specs.Answers.{Tables, Row}
+use Rattle.aqe_logical.specs.Answers.{Tables}
 use Rattle.aqe_logical.specs.Columns.{schema_of}
 use Rattle.aqe_type_laws.specs.Fits.{FitsColumns}
 use Rattle.aqe_type_laws.specs.Plans.{AnswersFit, KeepsTypes, ScansFit}

@@ -1,8 +1,8 @@
 -- Rows of groups: what stands in them, and the values of a grouped query's expressions over them.
-use Rattle.std.proofs.Common.{◌≡◌, ℕ, zero, suc, ◌+◌, Bool, true, false, List, [], ◌∷◌, ◌++◌, map, flat_map, length, Ok, Err, arith, refl, sym, ap, subst, ◌∙◌}
+use Rattle.std.proofs.Common.{◌≡◌, ℕ, suc, ◌+◌, Bool, true, false, List, [], ◌∷◌, ◌++◌, map, flat_map, length, Ok, Err, arith, refl, sym, ap, subst, ◌∙◌}
 use Rattle.std.specs.Prelude.{All, slice_index_or}
 use Rattle.std.proofs.lemmas.List.{length-map, get_or-append-add}
-use Rattle.std.proofs.lemmas.List.Elements.{All-nil, All-cons, All-head, All-tail, All-map, All-weaker}
+use Rattle.std.proofs.lemmas.List.Elements.{All-head, All-tail, All-map, All-weaker}
 use Rattle.aqe_values.specs.declared.value.Value.{Value}
 use Rattle.aqe_values.specs.declared.value.Value.TheVariants.{Null}
 use Rattle.aqe_values.specs.declared.sql_type.SqlType.{SqlType}
@@ -10,7 +10,6 @@ use Rattle.aqe_values.specs.declared.schema.Field.{Field}
 use Rattle.aqe_expr.specs.declared.expr.Expr.{Expr}
 use Rattle.aqe_expr.specs.Columns.{ColumnsBelow}
 use Rattle.aqe_expr.specs.Meaning.{val}
-use Rattle.aqe_logical.specs.declared.plan.AggCall.{AggCall}
 use Rattle.aqe_logical.specs.Groups.{row_of, call_value}
 use Rattle.aqe_rules.specs.Outcomes.{Outcome}
 use Rattle.aqe_rules.specs.declared.typed.Typed.{Typed}
@@ -28,7 +27,7 @@ use Rattle.aqe_type_laws.specs.Fits.{IsOf, FitsColumns}
 use Rattle.aqe_type_laws.proofs.OperationsTyped.{Typed_over}
 use Rattle.aqe_type_laws.proofs.RowsTyped.{Front, CallTyped, CallsStand}
 use Rattle.aqe_type_laws.proofs.ReadingsTyped.{kinds_of, Standing}
-use Rattle.aqe_type_laws.proofs.ExpressionsTyped.{types, columns-kinds, front-of}
+use Rattle.aqe_type_laws.proofs.ExpressionsTyped.{columns-kinds, front-of}
 use Rattle.aqe_type_laws.proofs.FormsTyped.{beside}
 use Rattle.aqe_type_laws.proofs.GroupedValues.{from_here, one_on, grouped-value}
 

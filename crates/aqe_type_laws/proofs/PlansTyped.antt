@@ -1,15 +1,15 @@
 -- Each node of the plan of a SELECT answers with rows that fit its columns, where those of FROM do.
-use Rattle.std.proofs.Common.{◌≡◌, ℕ, suc, ◌+◌, Bool, true, false, List, [], ◌∷◌, ◌++◌, map, length, Option, Some, None, Ok, arith, refl, sym, subst, ◌∙◌}
+use Rattle.std.proofs.Common.{◌≡◌, ℕ, suc, ◌+◌, Bool, true, false, List, [], ◌∷◌, ◌++◌, map, length, Option, Some, None, arith, refl, sym, subst, ◌∙◌}
 use Rattle.std.specs.Prelude.{All, slice_index_or}
 use Rattle.std.proofs.lemmas.List.{append-nil, map-append}
-use Rattle.std.proofs.lemmas.List.Elements.{All-map, All-append, All-weaker}
+use Rattle.std.proofs.lemmas.List.Elements.{All-append, All-weaker}
 use Rattle.aqe_values.specs.declared.value.Value.TheVariants.{Null}
 use Rattle.aqe_values.specs.declared.schema.Field.{Field}
 use Rattle.aqe_expr.specs.declared.expr.Expr.{Expr}
 use Rattle.aqe_expr.specs.Meaning.{val}
 use Rattle.aqe_logical.specs.declared.plan.SortKey.{SortKey}
 use Rattle.aqe_logical.specs.declared.plan.Logical.{Logical}
-use Rattle.aqe_logical.specs.Shapes.{filtered, projected, aggregated, sorted}
+use Rattle.aqe_logical.specs.Shapes.{filtered, projected, sorted}
 use Rattle.aqe_logical.specs.Answers.{Tables, Row}
 use Rattle.aqe_logical.specs.Columns.{schema_of}
 use Rattle.aqe_logical.specs.Groups.{row_of}
@@ -83,9 +83,12 @@ module _ (tables : Tables) where
       let t : Each (AnswersFit tables) below × AnswersFit tables below = g s in
       let fits : AnswersFit tables (groups_of true keys calls below) =
       aggregated-are tables (FitsColumns (aggregate_fields keys calls)) (map (λ k. k.expr) keys) (map (λ c. c.call) calls) (aggregate_fields keys calls) below
-      (λ row group f all. aggregate-fits columns keys calls k c row group (rows row f).0 (fronts group all)) t.1 in
-      ((fits, t.0), fits, aggregated-are tables (GroupRow columns (map (λ k. k.expr) keys) calls) (map (λ k. k.expr) keys) (map (λ c. c.call) calls) (aggregate_fields keys calls) below
-      (λ row group f all. (row, group, (rows row f).0, (rows row f).1, fronts group all, refl)) t.1)
+      (λ row group f all. aggregate-fits columns keys calls k c row group (rows row f).0 (fronts group all)) t.1 in (
+        (fits, t.0),
+        fits,
+        aggregated-are tables (GroupRow columns (map (λ k. k.expr) keys) calls) (map (λ k. k.expr) keys) (map (λ c. c.call) calls) (aggregate_fields keys calls) below
+            (λ row group f all. (row, group, (rows row f).0, (rows row f).1, fronts group all, refl)) t.1,
+      )
     where
       fronts : (group : List Row) → FitColumns (schema_of below) group → All (Front (kinds_of columns)) group
       fronts group all = All-weaker (FitsColumns (schema_of below)) (Front (kinds_of columns)) (λ row f. (rows row f).0) group all
@@ -110,15 +113,12 @@ module _ (tables : Tables) where
       ((fits, t.0), fits)
   distinct-good false a b plan e g = g
 
-  sorted_by-good : (keys : List SortKey) (plan : Logical) → Good plan → Good (sorted_by keys plan)
-  sorted_by-good [] plan g = g
-  sorted_by-good (first ∷ rest) plan g = λ s.
+  pub sorted-good : (keys : List SortKey) (plan : Logical) → Good plan → Good (sorted_by keys plan)
+  sorted-good [] plan g = g
+  sorted-good (first ∷ rest) plan g = λ s.
       let t : Each (AnswersFit tables) plan × AnswersFit tables plan = g s in
       let fits : AnswersFit tables (sorted (first ∷ rest) plan) = sorted-are tables (FitsColumns (schema_of plan)) (first ∷ rest) plan t.1 in
       ((fits, t.0), fits)
-
-  pub sorted-good : (keys : List SortKey) (plan : Logical) → Good plan → Good (sorted_by keys plan)
-  sorted-good keys plan g = sorted_by-good keys plan g
 
   without-good : (more : List Typed) (outputs : List Output) (rest : List Field) (plan : Logical) → schema_of plan ≡ fields_of outputs ++ rest → Good plan → Good (without_hidden more outputs plan)
   without-good [] outputs rest plan e g = g
@@ -142,7 +142,7 @@ module _ (tables : Tables) where
       Good (without_hidden hidden outputs (sorted_by sorts (distinct_if d (fields_of outputs) (projected_to (outputs ++ more) (filtered_by having (groups_of b keys calls below))))))
   select-good b d columns keys calls having outputs more hidden sorts below rows k c typed more_typed g =
       without-good hidden outputs shown.0 (sorted_by sorts (distinct_if d (fields_of outputs) whole)) (sorted-schema sorts (distinct_if d (fields_of outputs) whole) ∙ shown.1)
-      (sorted_by-good sorts (distinct_if d (fields_of outputs) whole) (distinct-good d (fields_of outputs) (fields_of more) whole columns_of_whole
+      (sorted-good sorts (distinct_if d (fields_of outputs) whole) (distinct-good d (fields_of outputs) (fields_of more) whole columns_of_whole
       (outputs-good (Under b columns keys calls) (outputs ++ more) (filtered_by having (groups_of b keys calls below)) (All-append (OutputTyped (Under b columns keys calls)) outputs more typed more_typed)
       (filtered_by-holds (Under b columns keys calls) having (groups_of b keys calls below) (groups-hold b columns keys calls below rows k c g)))))
     where

@@ -1,19 +1,12 @@
--- The plan of FROM, of a SELECT and of a whole query: each node answers with rows that fit its columns.
-use Rattle.std.proofs.Common.{◌≡◌, ℕ, ◌+◌, Bool, true, false, not, cond, List, [], ◌∷◌, ◌++◌, map, flat_map, length, Option, Some, None, Ok, Err, option_map, arith, refl, sym, ap, subst, ◌∙◌}
+-- The plan of a SELECT with its ORDER BY, over what FROM shows.
+use Rattle.std.proofs.Common.{◌≡◌, Bool, true, false, cond, List, [], map, length, Option, Some, None, Ok, Err, option_map, arith, refl, sym, subst}
 use Rattle.std.specs.Prelude.{All}
-use Rattle.std.specs.Option.{unwrap_or}
-use Rattle.std.proofs.lemmas.List.{append-nil}
-use Rattle.std.proofs.lemmas.Grind.{flat_map-append}
-use Rattle.std.proofs.lemmas.List.Elements.{All-head, All-tail, All-map, All-weaker}
-use Rattle.aqe_base.specs.declared.join_kind.JoinKind.{JoinKind}
-use Rattle.aqe_base.specs.declared.join_kind.JoinKind.TheVariants.{Cross}
+use Rattle.std.proofs.lemmas.List.Elements.{All-map, All-weaker}
 use Rattle.aqe_values.specs.declared.schema.Field.{Field}
-use Rattle.aqe_expr.specs.declared.expr.Expr.{Expr}
-use Rattle.aqe_logical.specs.declared.plan.Logical.{Logical, OneRow, Scan}
-use Rattle.aqe_logical.specs.Shapes.{filtered, joined, limited}
-use Rattle.aqe_logical.specs.Answers.{Tables, Row}
-use Rattle.aqe_logical.specs.Columns.{schema_of, shows_right}
-use Rattle.aqe_logical.proofs.Nodes.{Each}
+use Rattle.aqe_logical.specs.declared.plan.Logical.{Logical}
+use Rattle.aqe_logical.specs.Shapes.{filtered}
+use Rattle.aqe_logical.specs.Answers.{Tables}
+use Rattle.aqe_logical.specs.Columns.{schema_of}
 use Rattle.aqe_trees.specs.declared.expression.OrTree.{OrTree}
 use Rattle.aqe_trees.specs.declared.query.ItemTree.{ItemTree}
 use Rattle.aqe_trees.specs.declared.query.SortTree.{SortTree}
@@ -23,28 +16,22 @@ use Rattle.aqe_rules.specs.declared.names.Named.{Named}
 use Rattle.aqe_rules.specs.Readings.{Call}
 use Rattle.aqe_rules.specs.Expressions.{read}
 use Rattle.aqe_rules.specs.Limits.{within_limits}
-use Rattle.aqe_rules.specs.QueryForms.{Step}
-use Rattle.aqe_rules.specs.Sources.{Catalog, Item, From, item, from_of, columns_of, numbered, condition, table_named, scanned, table_source, query_source, join_condition, joined_items, join, join_all, cross_all, from_all, kept}
+use Rattle.aqe_rules.specs.Sources.{Item, From, columns_of, numbered, condition, kept}
 use Rattle.aqe_rules.specs.Selects.{Output, at, with_aliases, outputs, grouping_keys, is_grouped, built, having_condition}
-use Rattle.aqe_rules.specs.Plans.{fields_of, sortings, hidden_columns, keys_of, sorted_by, without_hidden, hidden_output, shown_columns, no_hidden, ordered}
-use Rattle.aqe_rules.specs.Unions.{union_of}
-use Rattle.aqe_rules.specs.Analysis.{Selected, plan_of, hide, sorted_plan, select_parts, calls_if, select_over, Core, unite_all, union_rule, bounded, cut}
+use Rattle.aqe_rules.specs.Plans.{fields_of, sortings, hidden_columns, keys_of, sorted_by, without_hidden, hidden_output, shown_columns, no_hidden}
+use Rattle.aqe_rules.specs.Analysis.{Selected, plan_of, hide, sorted_plan, select_parts, calls_if, select_over}
 use Rattle.aqe_rules.proofs.Gives.{Gives, gives_upon, gives_all}
 use Rattle.aqe_laws.proofs.OperationsBelow.{Below, either_one}
 use Rattle.aqe_laws.proofs.Sources.{Whole, numbered-fit, numbered-length}
 use Rattle.aqe_laws.proofs.Selects.{Ruled, grouping_keys-below}
 use Rattle.aqe_laws.proofs.Plans.{SortingFits, sortings-fit, hidden-all}
-use Rattle.aqe_type_laws.specs.Fits.{FitsColumns}
-use Rattle.aqe_type_laws.specs.Plans.{AnswersFit}
 use Rattle.aqe_type_laws.proofs.OperationsTyped.{Typed_over}
 use Rattle.aqe_type_laws.proofs.RowsTyped.{Front, CallTyped}
 use Rattle.aqe_type_laws.proofs.ReadingsTyped.{kinds_of, Standing, ColumnTyped, PlaceTyped, read-typed}
 use Rattle.aqe_type_laws.proofs.ExpressionsTyped.{place-typed}
-use Rattle.aqe_type_laws.proofs.FormsTyped.{one_row-fits, scan-fits, joined-fits, limited-are}
 use Rattle.aqe_type_laws.proofs.SelectsTyped.{ColumnIs, outputs-are, at-typed, grouping_keys-typed, calls_if-typed}
 use Rattle.aqe_type_laws.proofs.GroupsTyped.{fields, row-front, row-length, Under, built-typed}
-use Rattle.aqe_type_laws.proofs.PlansTyped.{OutputTyped, RowsOf, Good, filtered-good, sorted-good, select-good}
-use Rattle.aqe_type_laws.proofs.UnionsTyped.{limits-keep, union-good}
+use Rattle.aqe_type_laws.proofs.PlansTyped.{OutputTyped, RowsOf, Good, filtered-good, select-good}
 
 -- both of two properties
 gives_both : {T : Type 0} (P Q : T → Type 0) (o : Outcome T) → Gives P o → Gives Q o → Gives (λ t. P t × Q t) o
@@ -130,8 +117,8 @@ module _ (tables : Tables) (distinct : Bool) (list : List ItemTree) (has_from : 
   abbrev Stand : Typed → Type 0
   Stand = Typed_over (Standing (kinds_of cols) (length cols) all)
 
-  abbrev Whole_plan : Logical → Type 0
-  Whole_plan p = Good tables p × (schema_of p ≡ fields from.items)
+  abbrev Below_plan : Logical → Type 0
+  Below_plan p = Good tables p × (schema_of p ≡ fields from.items)
 
   rows-of : (p : Logical) → schema_of p ≡ fields from.items → RowsOf cols (schema_of p)
   rows-of p e = subst (RowsOf cols) (sym e) (items-rows from.items)
@@ -147,7 +134,7 @@ module _ (tables : Tables) (distinct : Bool) (list : List ItemTree) (has_from : 
 
   pub parts-typed : FromTyped tables from → Ruled grouped all → Gives Fine (select_parts distinct list has_from filter group having grouped all from)
   parts-typed h ruled =
-      gives_upon Whole_plan Fine (kept filter (with_aliases cols list []) from.plan)
+      gives_upon Below_plan Fine (kept filter (with_aliases cols list []) from.plan)
       (λ below. upon (grouping_keys has_from from.items (with_aliases cols list []) list group) (λ keys. with_keys below keys))
       (kept-good tables filter from list h) (λ below p.
       gives_upon (λ keys. All FromFront keys × All (Below (length cols)) keys) Fine (grouping_keys has_from from.items (with_aliases cols list []) list group) (λ keys. with_keys below keys)

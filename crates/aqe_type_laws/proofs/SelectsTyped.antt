@@ -1,5 +1,5 @@
 -- The keys, the output columns and the calls of a SELECT have values of their types.
-use Rattle.std.proofs.Common.{ℕ, ◌+◌, Bool, true, false, not, List, [], ◌∷◌, ◌++◌, map, filter, flat_map, length, Option, Some, None, Ok, refl}
+use Rattle.std.proofs.Common.{ℕ, ◌+◌, Bool, true, false, not, List, [], ◌∷◌, ◌++◌, map, filter, flat_map, length, Option, Some, None, Ok}
 use Rattle.std.specs.Prelude.{All}
 use Rattle.std.specs.List.{list_any}
 use Rattle.std.proofs.lemmas.List.Elements.{All-nil, All-cons, All-head, All-tail, All-append, All-map, All-filter, All-weaker}
@@ -15,7 +15,7 @@ use Rattle.aqe_rules.specs.Readings.{Call, Place, is_of, same_call}
 use Rattle.aqe_rules.specs.Looks.{Alone, a_number, a_column, something}
 use Rattle.aqe_rules.specs.Expressions.{read, alone_of}
 use Rattle.aqe_rules.specs.Sources.{Item, columns_of, over}
-use Rattle.aqe_rules.specs.Selects.{Output, output, at, alias_of, with_aliases, all_columns, is_named, columns_of_all, Spread, column, expression, spread_item, spread, spread_value, output_name, column_output, item_outputs, outputs, at_position, grouping_key, grouping_keys, without, once, calls_of_item, calls_of_having, calls_of}
+use Rattle.aqe_rules.specs.Selects.{Output, output, at, alias_of, with_aliases, all_columns, is_named, columns_of_all, Spread, column, expression, spread_item, spread, spread_value, output_name, column_output, item_outputs, outputs, at_position, grouping_key, grouping_keys, without, once, calls_of_item, calls_of_having}
 use Rattle.aqe_rules.specs.Analysis.{calls_if}
 use Rattle.aqe_rules.proofs.Gives.{Gives, gives_upon, gives_each, gives_weaker}
 use Rattle.aqe_laws.proofs.OperationsBelow.{either_one}
@@ -23,7 +23,7 @@ use Rattle.aqe_laws.proofs.Readings.{flat-all}
 use Rattle.aqe_laws.proofs.Selects.{every, position-given}
 use Rattle.aqe_type_laws.proofs.OperationsTyped.{Typed_over}
 use Rattle.aqe_type_laws.proofs.RowsTyped.{Front, CallTyped}
-use Rattle.aqe_type_laws.proofs.ReadingsTyped.{kinds_of, Standing, ColumnTyped, AliasTyped, PlaceTyped, read-typed}
+use Rattle.aqe_type_laws.proofs.ReadingsTyped.{kinds_of, Standing, AliasTyped, PlaceTyped, read-typed}
 use Rattle.aqe_type_laws.proofs.ExpressionsTyped.{place-typed}
 
 -- the columns of a SELECT, where N holds of each column of FROM

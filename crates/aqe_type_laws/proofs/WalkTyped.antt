@@ -9,9 +9,9 @@ use Rattle.aqe_base.specs.declared.join_kind.JoinKind.{JoinKind}
 use Rattle.aqe_base.specs.declared.join_kind.JoinKind.TheVariants.{Cross}
 use Rattle.aqe_values.specs.declared.schema.Field.{Field}
 use Rattle.aqe_expr.specs.declared.expr.Expr.{Expr}
-use Rattle.aqe_logical.specs.declared.plan.Logical.{Logical, OneRow, Scan}
+use Rattle.aqe_logical.specs.declared.plan.Logical.{Logical, Scan}
 use Rattle.aqe_logical.specs.Shapes.{joined, limited}
-use Rattle.aqe_logical.specs.Answers.{Tables, Row}
+use Rattle.aqe_logical.specs.Answers.{Tables}
 use Rattle.aqe_logical.specs.Columns.{schema_of, shows_right}
 use Rattle.aqe_logical.proofs.Nodes.{Each, all_nodes}
 use Rattle.aqe_trees.specs.declared.expression.OrTree.{OrTree}
@@ -23,7 +23,7 @@ use Rattle.aqe_rules.specs.Outcomes.{Outcome, upon}
 use Rattle.aqe_rules.specs.Limits.{within_limits}
 use Rattle.aqe_rules.specs.QueryForms.{Step}
 use Rattle.aqe_rules.specs.QueryTrees.{made_of_query, made_of_union, made_of_core, made_of_select, made_of_joined, made_of_step, made_of_source}
-use Rattle.aqe_rules.specs.Sources.{Catalog, Item, From, item, from_of, numbered, table_named, scanned, table_source, query_source, join_condition, joined_items, join, join_all, cross_all, from_all}
+use Rattle.aqe_rules.specs.Sources.{Catalog, Item, From, item, from_of, numbered, table_named, scanned, query_source, join_condition, joined_items, join, join_all, cross_all, from_all}
 use Rattle.aqe_rules.specs.Selects.{is_empty}
 use Rattle.aqe_rules.specs.Plans.{sortings, keys_of, sorted_by, no_hidden, ordered}
 use Rattle.aqe_rules.specs.Unions.{union_of}
@@ -33,7 +33,7 @@ use Rattle.aqe_rules.proofs.QueryLevels as level
 use Rattle.aqe_laws.specs.Scans.{scanned_tables, HasItsColumns}
 use Rattle.aqe_laws.proofs.Scans.{of_the_catalog}
 use Rattle.aqe_type_laws.specs.Fits.{FitsColumns}
-use Rattle.aqe_type_laws.specs.Plans.{AnswersFit, FitsItsRows, ScansFit, TablesFit}
+use Rattle.aqe_type_laws.specs.Plans.{AnswersFit, FitsItsRows}
 use Rattle.aqe_type_laws.specs.Laws.{PlansAreTyped, NodesAreTyped, TablesFitTheScans}
 use Rattle.aqe_type_laws.proofs.EachQuery.{Parts, each_query}
 use Rattle.aqe_type_laws.proofs.FormsTyped.{one_row-fits, scan-fits, left-fit, right-fit, joined-fits, limited-are}
