@@ -1,4 +1,4 @@
--- The plan of a UNION answers with rows that fit its columns, where both sides do.
+-- The nodes of the plan of a UNION give what their columns say, where those of both sides do.
 use Rattle.std.proofs.Common.{◌≡◌, ℕ, suc, ◌+◌, ◌==◌, Bool, true, List, [], ◌∷◌, length, Ok, arith, refl, sym, ap, subst, ◌∙◌, eqb-true}
 use Rattle.std.specs.Prelude.{slice_index_or}
 use Rattle.std.proofs.lemmas.List.{append-nil}
@@ -9,10 +9,9 @@ use Rattle.aqe_values.specs.declared.sql_type.SqlType.{SqlType}
 use Rattle.aqe_expr.specs.declared.expr.Expr.{Column}
 use Rattle.aqe_logical.specs.declared.plan.Logical.{Logical}
 use Rattle.aqe_logical.specs.Shapes.{projected, united}
-use Rattle.aqe_logical.specs.Answers.{Tables, Row}
+use Rattle.aqe_logical.specs.Answers.{Row}
 use Rattle.aqe_logical.specs.Columns.{schema_of, width}
 use Rattle.aqe_logical.specs.Groups.{row_of}
-use Rattle.aqe_logical.proofs.Nodes.{Each}
 use Rattle.aqe_rules.specs.Outcomes.{refused, upon, provided, present}
 use Rattle.aqe_rules.specs.Kinds.{common, is_same_kind}
 use Rattle.aqe_rules.specs.Operations.{typed, mismatch}
@@ -24,13 +23,12 @@ use Rattle.aqe_laws.proofs.OperationsBelow.{either_one}
 use Rattle.aqe_laws.proofs.Bounds.{Bounded, passed, within-bounded}
 use Rattle.aqe_laws.proofs.Same as same
 use Rattle.aqe_type_laws.specs.Fits.{IsOf, FitsColumns}
-use Rattle.aqe_type_laws.specs.Plans.{AnswersFit}
+use Rattle.aqe_type_laws.specs.Plans.{KeepsTypes}
 use Rattle.aqe_type_laws.proofs.Values.{same_kind}
 use Rattle.aqe_type_laws.proofs.OperationsTyped.{either_known, converted-typed}
 use Rattle.aqe_type_laws.proofs.ExpressionsTyped.{types}
-use Rattle.aqe_type_laws.proofs.FormsTyped.{left-fit, right-fit, united-fits}
 use Rattle.aqe_type_laws.proofs.GroupedValues.{from_here, one_on}
-use Rattle.aqe_type_laws.proofs.PlansTyped.{Good, good-holds, projected-good, distinct-good}
+use Rattle.aqe_type_laws.proofs.PlansTyped.{kept-holds, projected-keeps, distinct-keeps}
 
 -- Which rows fit is decided by the types of the columns alone.
 abbrev FitsTypes : List SqlType → Row → Type 0
@@ -65,12 +63,12 @@ cast-fit (k ∷ ks) (f ∷ fs) n whole (v ∷ rest) at h = (
   cast-fit ks fs (n + 1) whole rest (λ j. subst (λ m. slice_index_or whole m Null ≡ slice_index_or rest j Null) (one_on n j) (at (suc j))) h.1,
 )
 
-side-good : (tables : Tables) (ks : List SqlType) (plan : Logical) → Good tables plan → Good tables (cast_side ks plan)
-side-good tables ks plan g =
-    either_one (Good tables) (has_kinds ks (schema_of plan)) plan (projected (cast_columns 0 ks (schema_of plan)) (cast_fields ks (schema_of plan)) plan) g
-    (projected-good tables (FitsColumns (schema_of plan)) (cast_columns 0 ks (schema_of plan)) (cast_fields ks (schema_of plan)) plan
+side-keeps : (ks : List SqlType) (plan : Logical) → KeepsTypes plan → KeepsTypes (cast_side ks plan)
+side-keeps ks plan k =
+    either_one KeepsTypes (has_kinds ks (schema_of plan)) plan (projected (cast_columns 0 ks (schema_of plan)) (cast_fields ks (schema_of plan)) plan) k
+    (projected-keeps (FitsColumns (schema_of plan)) (cast_columns 0 ks (schema_of plan)) (cast_fields ks (schema_of plan)) plan
     (λ row f. cast-fit ks (schema_of plan) 0 row row (λ k. subst (λ m. slice_index_or row m Null ≡ slice_index_or row k Null) (from_zero k) refl) f)
-    (good-holds tables (FitsColumns (schema_of plan)) plan (λ row f. f) g))
+    (kept-holds (FitsColumns (schema_of plan)) plan (λ row f. f) k))
   where
     from_zero : (k : ℕ) → k ≡ 0 + k
     from_zero k = omega arith
@@ -116,27 +114,20 @@ kinds-enough (f ∷ fs) (g ∷ gs) =
 pub limits-keep : (P : Logical → Type 0) (p : Logical) → P p → Gives P (within_limits p)
 limits-keep P p h = gives_weaker (λ q. P q × Bounded q) P (λ q k. k.0) (within_limits p) (within-bounded P p h)
 
-module _ (tables : Tables) where
-  united-good : (left right : Logical) → ((row : Row) → FitsColumns (schema_of right) row → FitsColumns (schema_of left) row) → Good tables left → Good tables right → Good tables (united left right)
-  united-good left right like g h s =
-      let a : Each (AnswersFit tables) left × AnswersFit tables left = g (left-fit tables left right s) in
-      let b : Each (AnswersFit tables) right × AnswersFit tables right = h (right-fit tables left right s) in
-      let fits : AnswersFit tables (united left right) = united-fits tables left right like a.1 b.1 in
-      ((fits, a.0, b.0), fits)
-
-  pub union-good : (distinct : Bool) (left right : Logical) → Good tables left → Good tables right → Gives (Good tables) (union_of distinct left right)
-  union-good distinct left right g h =
-      gives_upon (Enough (schema_of left) (schema_of right)) (Good tables) (common_kinds (schema_of left) (schema_of right))
-      (λ kinds. provided (length (schema_of left) == length (schema_of right)) (refused UnionWidth [])
-      (within_limits (distinct_if distinct (schema_of (cast_side kinds left)) (united (cast_side kinds left) (cast_side kinds right)))))
-      (kinds-enough (schema_of left) (schema_of right)) (λ kinds enough.
-      passed (Good tables) (length (schema_of left) == length (schema_of right)) (refused UnionWidth [])
-      (within_limits (distinct_if distinct (schema_of (cast_side kinds left)) (united (cast_side kinds left) (cast_side kinds right)))) (λ t.
-      let wide : width left ≡ width right = eqb-true (width left) (width right) t in
-      let l : types (schema_of (cast_side kinds left)) ≡ kinds = side-types kinds left (enough wide) in
-      let r : types (schema_of (cast_side kinds right)) ≡ kinds = side-types kinds right (enough wide ∙ wide) in
-      limits-keep (Good tables) (distinct_if distinct (schema_of (cast_side kinds left)) (united (cast_side kinds left) (cast_side kinds right)))
-      (distinct-good tables distinct (schema_of (cast_side kinds left)) [] (united (cast_side kinds left) (cast_side kinds right)) (sym (append-nil (schema_of (cast_side kinds left))))
-      (united-good (cast_side kinds left) (cast_side kinds right)
-      (λ row f. fits-like (schema_of (cast_side kinds right)) (schema_of (cast_side kinds left)) row (r ∙ sym l) f)
-      (side-good tables kinds left g) (side-good tables kinds right h)))))
+pub union-keeps : (distinct : Bool) (left right : Logical) → KeepsTypes left → KeepsTypes right → Gives KeepsTypes (union_of distinct left right)
+union-keeps distinct left right g h =
+    gives_upon (Enough (schema_of left) (schema_of right)) KeepsTypes (common_kinds (schema_of left) (schema_of right))
+    (λ kinds. provided (length (schema_of left) == length (schema_of right)) (refused UnionWidth [])
+    (within_limits (distinct_if distinct (schema_of (cast_side kinds left)) (united (cast_side kinds left) (cast_side kinds right)))))
+    (kinds-enough (schema_of left) (schema_of right)) (λ kinds enough.
+    passed KeepsTypes (length (schema_of left) == length (schema_of right)) (refused UnionWidth [])
+    (within_limits (distinct_if distinct (schema_of (cast_side kinds left)) (united (cast_side kinds left) (cast_side kinds right)))) (λ t.
+    let wide : width left ≡ width right = eqb-true (width left) (width right) t in
+    let l : types (schema_of (cast_side kinds left)) ≡ kinds = side-types kinds left (enough wide) in
+    let r : types (schema_of (cast_side kinds right)) ≡ kinds = side-types kinds right (enough wide ∙ wide) in
+    limits-keep KeepsTypes (distinct_if distinct (schema_of (cast_side kinds left)) (united (cast_side kinds left) (cast_side kinds right)))
+    (distinct-keeps distinct (schema_of (cast_side kinds left)) [] (united (cast_side kinds left) (cast_side kinds right)) (sym (append-nil (schema_of (cast_side kinds left)))) (
+      side-keeps kinds left g,
+      side-keeps kinds right h,
+      λ row f. fits-like (schema_of (cast_side kinds right)) (schema_of (cast_side kinds left)) row (r ∙ sym l) f,
+    ))))

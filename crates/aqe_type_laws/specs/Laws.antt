@@ -24,7 +24,11 @@ ExpressionsAreTyped = (tree : OrTree) (items : List Item) (a : Typed) (row : Lis
 abbrev pub AnswersFitTheColumns : Type 0
 AnswersFitTheColumns = (tables : Tables) (plan : Logical) (l : List Row) → KeepsTypes plan → ScansFit tables plan → AnswerOf tables plan l → FitColumns (schema_of plan) l
 
--- The plan of a query answers with rows that fit its columns, over tables that fit its scans.
+-- The nodes of a query's plan give what their columns say.
+abbrev pub PlansKeepTypes : Type 0
+PlansKeepTypes = (tree : QueryTree) (catalog : Catalog) (plan : Logical) → Analysed tree catalog plan → KeepsTypes plan
+
+-- So the plan of a query answers with rows that fit its columns, over tables that fit its scans.
 abbrev pub PlansAreTyped : Type 0
 PlansAreTyped = (tree : QueryTree) (catalog : Catalog) (plan : Logical) (tables : Tables) → Analysed tree catalog plan → ScansFit tables plan → AnswersFit tables plan
 

@@ -1,6 +1,8 @@
 -- Plans whose nodes give what their columns say.
-use Rattle.std.specs.Prelude.{ℕ, List, ◌++◌, All, map}
+use Rattle.std.specs.Prelude.{◌≡◌, ℕ, List, ◌++◌, All, map}
 use Rattle.aqe_values.specs.declared.schema.Field.{Field}
+use Rattle.aqe_expr.specs.declared.expr.Expr.{Expr}
+use Rattle.aqe_logical.specs.declared.plan.AggCall.{AggCall}
 use Rattle.aqe_logical.specs.declared.plan.Logical.{Logical, OneRow, Scan, Empty, Held, HeldPartial}
 use Rattle.aqe_logical.specs.Shapes.{filtered, projected, joined, aggregated, united, sorted, limited, sampled}
 use Rattle.aqe_logical.specs.Columns.{schema_of}
@@ -18,14 +20,28 @@ FitColumns columns rows = All (FitsColumns columns) rows
 abbrev pub AnswersFit : Tables → Logical → Type 0
 AnswersFit tables plan = (l : List Row) → AnswerOf tables plan l → FitColumns (schema_of plan) l
 
--- Over rows below that fit their columns, the items of a Project, and the keys and calls of an Aggregate, have values of their
--- columns; and the right side of a Union fits the columns of the left one. The other forms ask nothing of their own.
+-- The rows that a plan may answer with, as far as types tell. They fit its columns; the row of a group is the keys at a row below,
+-- and then the calls over rows below; Filter, Sort and Limit have rows of the plan below them.
+abbrev pub IsGroup : List Expr → List AggCall → List Field → Row → Type 0
+IsGroup keys calls columns x =
+    (row : Row) × (group : List Row) × FitsColumns columns row × FitColumns columns group × (x ≡ row_of keys row ++ map (call_value group) calls)
+
+abbrev pub MayBeRow : Logical → Row → Type 0
+MayBeRow (filtered condition child) row = MayBeRow child row
+MayBeRow (sorted keys child) row = MayBeRow child row
+MayBeRow (limited count skip child) row = MayBeRow child row
+MayBeRow (aggregated keys calls schema child) row = FitsColumns schema row × IsGroup keys calls (schema_of child) row
+MayBeRow plan row = FitsColumns (schema_of plan) row
+
+-- Over the rows that the plan below may answer with, the items of a Project have values of its columns; so have the keys and
+-- calls of an Aggregate over rows that fit the columns below; and the right side of a Union fits the columns of the left one.
+-- The other forms ask nothing of their own.
 abbrev pub KeepsTypes : Logical → Type 0
 KeepsTypes OneRow = Unit {0}
 KeepsTypes (Scan table schema) = Unit {0}
 KeepsTypes (filtered condition child) = KeepsTypes child
 KeepsTypes (projected items schema child) =
-    KeepsTypes child × ((row : Row) → FitsColumns (schema_of child) row → FitsColumns schema (row_of items row))
+    KeepsTypes child × ((row : Row) → MayBeRow child row → FitsColumns schema (row_of items row))
 KeepsTypes (joined kind condition left right) = KeepsTypes left × KeepsTypes right
 KeepsTypes (aggregated keys calls schema child) =
     KeepsTypes child × ((row : Row) (group : List Row) → FitsColumns (schema_of child) row → FitColumns (schema_of child) group →

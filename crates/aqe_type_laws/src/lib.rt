@@ -5,5 +5,5 @@ mod laws;
 
 pub use laws::{
     answers_fit_the_columns, expressions_are_typed, nodes_are_typed, plans_are_typed,
-    tables_fit_the_scans,
+    plans_keep_types, tables_fit_the_scans,
 };
