@@ -19,7 +19,7 @@ use Rattle.aqe_logical.specs.Groups.{row_of, distinct, group_keys, group_rows, r
 use Rattle.aqe_logical.specs.Joins.{nulls, where_none, with_matches, left_over, half, pairs}
 use Rattle.aqe_laws.specs.Scans.{scanned_tables}
 use Rattle.aqe_type_laws.specs.Fits.{FitsColumns}
-use Rattle.aqe_type_laws.specs.Plans.{FitColumns, AnswersFit, FitsItsRows, ScansFit}
+use Rattle.aqe_type_laws.specs.Plans.{FitColumns, AnswersFit, RowsFit, ScansFit}
 
 -- rows side by side, and rows of NULLs
 pub beside : (a b : List Field) (x y : Row) → FitsColumns a x → FitsColumns b y → FitsColumns (a ++ b) (x ++ y)
@@ -126,13 +126,13 @@ module _ (tables : Tables) where
   one_row-fits l h = rw h (one-fits [] [] tt)
 
   pub scan-fits : (table : ℕ) (schema : List Field) → ScansFit tables (Scan table schema) → AnswersFit tables (Scan table schema)
-  scan-fits table schema f l h = All-permutation (FitsColumns schema) (table_rows tables table) l h (All-head (FitsItsRows tables) (table, schema) [] f)
+  scan-fits table schema f l h = All-permutation (FitsColumns schema) (table_rows tables table) l h (All-head (RowsFit tables) (table, schema) [] f)
 
-  pub left-fit : (left right : Logical) → All (FitsItsRows tables) (scanned_tables left ++ scanned_tables right) → ScansFit tables left
-  left-fit left right f = left_scans (FitsItsRows tables) (scanned_tables left) (scanned_tables right) f
+  pub left-fit : (left right : Logical) → All (RowsFit tables) (scanned_tables left ++ scanned_tables right) → ScansFit tables left
+  left-fit left right f = left_scans (RowsFit tables) (scanned_tables left) (scanned_tables right) f
 
-  pub right-fit : (left right : Logical) → All (FitsItsRows tables) (scanned_tables left ++ scanned_tables right) → ScansFit tables right
-  right-fit left right f = right_scans (FitsItsRows tables) (scanned_tables left) (scanned_tables right) f
+  pub right-fit : (left right : Logical) → All (RowsFit tables) (scanned_tables left ++ scanned_tables right) → ScansFit tables right
+  right-fit left right f = right_scans (RowsFit tables) (scanned_tables left) (scanned_tables right) f
 
   pub filtered-are : (Q : Row → Type 0) (condition : Expr) (child : Logical) → AnswersAre Q child → AnswersAre Q (filtered condition child)
   filtered-are Q condition child f l (rows, h, e) = rw e (All-filter (holds condition) Q rows (f rows h))

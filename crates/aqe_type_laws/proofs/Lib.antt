@@ -13,3 +13,4 @@ pub mod UnionsTyped
 pub mod QueriesTyped
 pub mod EachQuery
 pub mod WalkTyped
+pub mod KnownAnswers

@@ -30,7 +30,7 @@ use Rattle.aqe_rules.proofs.Gives.{Gives, gives_upon}
 use Rattle.aqe_rules.proofs.QueryLevels as level
 use Rattle.aqe_laws.specs.Scans.{scanned_tables, HasItsColumns}
 use Rattle.aqe_laws.proofs.Scans.{of_the_catalog}
-use Rattle.aqe_type_laws.specs.Plans.{AnswersFit, KeepsTypes, FitsItsRows}
+use Rattle.aqe_type_laws.specs.Plans.{AnswersFit, KeepsTypes, RowsFit}
 use Rattle.aqe_type_laws.specs.Laws.{PlansKeepTypes, PlansAreTyped, NodesAreTyped, TablesFitTheScans}
 use Rattle.aqe_type_laws.proofs.EachQuery.{Parts, each_query}
 use Rattle.aqe_type_laws.proofs.AnswersTyped.{fit, each-fits}
@@ -162,11 +162,11 @@ pub plans_keep : PlansKeepTypes
 plans_keep tree catalog plan e = subst (Gives KeepsTypes) e (walk-typed tree catalog)
 
 pub plans_typed : PlansAreTyped
-plans_typed tree catalog plan tables e f = fit tables plan (plans_keep tree catalog plan e) f
+plans_typed tree catalog plan tables l e f = fit tables plan (plans_keep tree catalog plan e) f l
 
 pub nodes_typed : NodesAreTyped
 nodes_typed tree catalog plan tables e f = all_nodes (AnswersFit tables) plan (each-fits tables plan (plans_keep tree catalog plan e) f)
 
 pub tables_fit : TablesFitTheScans
 tables_fit tree catalog plan tables e f =
-    All-weaker (HasItsColumns catalog) (FitsItsRows tables) (λ scan has. f scan.0 scan.1 has) (scanned_tables plan) (of_the_catalog tree catalog plan e)
+    All-weaker (HasItsColumns catalog) (RowsFit tables) (λ scan has. f scan.0 scan.1 has) (scanned_tables plan) (of_the_catalog tree catalog plan e)

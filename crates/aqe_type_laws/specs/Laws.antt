@@ -22,7 +22,8 @@ ExpressionsAreTyped = (tree : OrTree) (items : List Item) (a : Typed) (row : Lis
 
 -- A plan whose nodes give what their columns say answers with rows that fit its columns, over tables that fit its scans.
 abbrev pub AnswersFitTheColumns : Type 0
-AnswersFitTheColumns = (tables : Tables) (plan : Logical) (l : List Row) → KeepsTypes plan → ScansFit tables plan → AnswerOf tables plan l → FitColumns (schema_of plan) l
+AnswersFitTheColumns = (tables : Tables) (plan : Logical) (l : List Row) →
+    KeepsTypes plan → ScansFit tables plan → AnswerOf tables plan l → FitColumns (schema_of plan) l
 
 -- The nodes of a query's plan give what their columns say.
 abbrev pub PlansKeepTypes : Type 0
@@ -30,7 +31,8 @@ PlansKeepTypes = (tree : QueryTree) (catalog : Catalog) (plan : Logical) → Ana
 
 -- So the plan of a query answers with rows that fit its columns, over tables that fit its scans.
 abbrev pub PlansAreTyped : Type 0
-PlansAreTyped = (tree : QueryTree) (catalog : Catalog) (plan : Logical) (tables : Tables) → Analysed tree catalog plan → ScansFit tables plan → AnswersFit tables plan
+PlansAreTyped = (tree : QueryTree) (catalog : Catalog) (plan : Logical) (tables : Tables) (l : List Row) →
+    Analysed tree catalog plan → ScansFit tables plan → AnswerOf tables plan l → FitColumns (schema_of plan) l
 
 -- So does each plan within it.
 abbrev pub NodesAreTyped : Type 0
@@ -39,4 +41,5 @@ NodesAreTyped = (tree : QueryTree) (catalog : Catalog) (plan : Logical) (tables 
 
 -- Tables that fit their catalog fit the scans of the plan of each query over it.
 abbrev pub TablesFitTheScans : Type 0
-TablesFitTheScans = (tree : QueryTree) (catalog : Catalog) (plan : Logical) (tables : Tables) → Analysed tree catalog plan → TablesFit catalog tables → ScansFit tables plan
+TablesFitTheScans = (tree : QueryTree) (catalog : Catalog) (plan : Logical) (tables : Tables) →
+    Analysed tree catalog plan → TablesFit catalog tables → ScansFit tables plan

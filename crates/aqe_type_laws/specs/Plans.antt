@@ -20,12 +20,13 @@ FitColumns columns rows = All (FitsColumns columns) rows
 abbrev pub AnswersFit : Tables → Logical → Type 0
 AnswersFit tables plan = (l : List Row) → AnswerOf tables plan l → FitColumns (schema_of plan) l
 
--- The rows that a plan may answer with, as far as types tell. They fit its columns; the row of a group is the keys at a row below,
--- and then the calls over rows below; Filter, Sort and Limit have rows of the plan below them.
+-- the row of a group: the keys at a row of these columns, and then the calls over rows of these columns
 abbrev pub IsGroup : List Expr → List AggCall → List Field → Row → Type 0
 IsGroup keys calls columns x =
     (row : Row) × (group : List Row) × FitsColumns columns row × FitColumns columns group × (x ≡ row_of keys row ++ map (call_value group) calls)
 
+-- The rows that a plan may answer with, as far as types tell: rows that fit its columns, those of an Aggregate the rows of groups;
+-- Filter, Sort and Limit answer with rows of the plan below.
 abbrev pub MayBeRow : Logical → Row → Type 0
 MayBeRow (filtered condition child) row = MayBeRow child row
 MayBeRow (sorted keys child) row = MayBeRow child row
@@ -56,13 +57,14 @@ KeepsTypes (HeldPartial stage calls schema) = ⊥
 KeepsTypes (sampled stage child) = ⊥
 
 -- the rows of a scanned table fit the columns of the scan
-abbrev pub FitsItsRows : Tables → (ℕ × List Field) → Type 0
-FitsItsRows tables scan = FitColumns scan.1 (table_rows tables scan.0)
+abbrev pub RowsFit : Tables → (ℕ × List Field) → Type 0
+RowsFit tables scan = FitColumns scan.1 (table_rows tables scan.0)
 
 -- so they do for each table that a plan scans
 abbrev pub ScansFit : Tables → Logical → Type 0
-ScansFit tables plan = All (FitsItsRows tables) (scanned_tables plan)
+ScansFit tables plan = All (RowsFit tables) (scanned_tables plan)
 
 -- the rows of each table of a catalog fit the columns that the catalog has of it
 abbrev pub TablesFit : Catalog → Tables → Type 0
-TablesFit catalog tables = (table : ℕ) (columns : List Field) → HasItsColumns catalog (table, columns) → FitColumns columns (table_rows tables table)
+TablesFit catalog tables =
+    (table : ℕ) (columns : List Field) → HasItsColumns catalog (table, columns) → FitColumns columns (table_rows tables table)
