@@ -1,137 +1,73 @@
--- What a plan answers fits its columns.
-use Rattle.std.proofs.Common.{◌≡◌, ℕ, Bool, not, cond, List, [], ◌∷◌, ◌++◌, map, drop, length, refl, sym, Option, Some, None, subst}
-use Rattle.std.specs.Prelude.{filter, All}
-use Rattle.std.proofs.lemmas.List.Elements.{All-nil, All-cons, All-head, All-tail, All-append, All-map, All-filter, All-take, All-drop, All-weaker}
-use Rattle.std.proofs.lemmas.List.Sorted.{All-permutation}
-use Rattle.aqe_base.specs.declared.join_kind.JoinKind.{JoinKind}
-use Rattle.aqe_base.specs.declared.join_kind.JoinKind.TheVariants.{Inner, Cross, LeftOuter, RightOuter, FullOuter, LeftSemi, LeftAnti}
-use Rattle.aqe_values.specs.declared.schema.Field.{Field}
-use Rattle.aqe_values.specs.Equality.{row_eq}
-use Rattle.aqe_expr.specs.declared.expr.Expr.{Expr}
-use Rattle.aqe_expr.specs.Meaning.{holds}
-use Rattle.aqe_logical.specs.declared.plan.AggCall.{AggCall}
+-- What a plan answers fits its columns, where its nodes give what their columns say.
+use Rattle.std.proofs.Common.{refl}
+use Rattle.std.proofs.lemmas.List.Elements.{All-nil, All-weaker}
 use Rattle.aqe_logical.specs.declared.plan.Logical.{Logical, OneRow, Scan, Empty, Held, HeldPartial}
 use Rattle.aqe_logical.specs.Shapes.{filtered, projected, joined, aggregated, united, sorted, limited, sampled}
-use Rattle.aqe_logical.specs.Answers.{Tables, Row, AnswerOf, table_rows, meets, at_most_rows}
-use Rattle.aqe_logical.specs.Columns.{width, schema_of, shows_right}
-use Rattle.aqe_logical.specs.Groups.{row_of, distinct, group_keys, group_rows, rows_with, call_value}
-use Rattle.aqe_logical.specs.Joins.{nulls, where_none, with_matches, left_over, half, pairs}
+use Rattle.aqe_logical.specs.Answers.{Tables, Row}
+use Rattle.aqe_logical.specs.Columns.{schema_of}
+use Rattle.aqe_logical.proofs.Nodes.{Each}
 use Rattle.aqe_type_laws.specs.Fits.{FitsColumns}
-use Rattle.aqe_type_laws.specs.Plans.{FitColumns, KeepsTypes, ScansFit}
+use Rattle.aqe_type_laws.specs.Plans.{AnswersFit, MayBeRow, KeepsTypes, ScansFit}
 use Rattle.aqe_type_laws.specs.Laws.{AnswersFitTheColumns}
+use Rattle.aqe_type_laws.proofs.FormsTyped.{AnswersAre, one_row-fits, scan-fits, left-fit, right-fit, filtered-are, projected-are, joined-fits, aggregated-are, united-fits, sorted-are, limited-are}
 
--- rows side by side, and rows of NULLs
-beside : (a b : List Field) (x y : Row) → FitsColumns a x → FitsColumns b y → FitsColumns (a ++ b) (x ++ y)
-beside [] b [] y h k = k
-beside [] b (v ∷ x) y h k = absurd h
-beside (f ∷ a) b [] y h k = absurd h
-beside (f ∷ a) b (v ∷ x) y h k = (h.0, beside a b x y h.1 k)
+-- a row that a plan may answer with fits its columns
+pub row-fits : (plan : Logical) (row : Row) → MayBeRow plan row → FitsColumns (schema_of plan) row
+row-fits OneRow row h = h
+row-fits (Scan table schema) row h = h
+row-fits (filtered condition child) row h = row-fits child row h
+row-fits (projected items schema child) row h = h
+row-fits (joined kind condition left right) row h = h
+row-fits (aggregated keys calls schema child) row (h, g) = h
+row-fits (united left right) row h = h
+row-fits (sorted keys child) row h = row-fits child row h
+row-fits (limited count skip child) row h = row-fits child row h
+row-fits (Empty schema) row h = h
+row-fits (Held stage place schema) row h = h
+row-fits (HeldPartial stage calls schema) row h = h
+row-fits (sampled stage child) row h = h
 
-pub nulls_fit : (a : List Field) → FitsColumns a (nulls (length a))
-nulls_fit [] = tt
-nulls_fit (f ∷ a) = (tt, nulls_fit a)
+module _ (tables : Tables) where
+  fits-of : (plan : Logical) → AnswersAre tables (MayBeRow plan) plan → AnswersFit tables plan
+  fits-of plan a = λ l h. All-weaker (MayBeRow plan) (FitsColumns (schema_of plan)) (row-fits plan) l (a l h)
 
-where_none-all : (P : Row → Type 0) (ms lone met : List Row) → All P lone → All P met → All P (where_none ms lone met)
-where_none-all P [] lone met h k = h
-where_none-all P (m ∷ ms) lone met h k = k
+  rows : (plan : Logical) → KeepsTypes plan → ScansFit tables plan → AnswersAre tables (MayBeRow plan) plan
+  rows OneRow s f = one_row-fits tables
+  rows (Scan table schema) s f = scan-fits tables table schema f
+  rows (filtered condition child) s f = filtered-are tables (MayBeRow child) condition child (rows child s f)
+  rows (projected items schema child) (s, made) f = projected-are tables (MayBeRow child) (FitsColumns schema) items schema child made (rows child s f)
+  rows (joined kind condition left right) (s, t) f =
+      joined-fits tables kind condition left right (fits-of left (rows left s (left-fit tables left right f))) (fits-of right (rows right t (right-fit tables left right f)))
+  rows (aggregated keys calls schema child) (s, made) f =
+      aggregated-are tables (MayBeRow (aggregated keys calls schema child)) keys calls schema child (λ row group h all. (made row group h all, (row, group, h, all, refl))) (fits-of child (rows child s f))
+  rows (united left right) (s, t, same) f = united-fits tables left right same (fits-of left (rows left s (left-fit tables left right f))) (fits-of right (rows right t (right-fit tables left right f)))
+  rows (sorted keys child) s f = sorted-are tables (MayBeRow child) keys child (rows child s f)
+  rows (limited count skip child) s f = limited-are tables (MayBeRow child) count skip child (rows child s f)
+  rows (Empty schema) s f = λ l h. rw h (All-nil (FitsColumns schema))
+  rows (Held stage place schema) s f = absurd s
+  rows (HeldPartial stage calls schema) s f = absurd s
+  rows (sampled stage child) s f = absurd s
 
--- a join has the columns of both sides, or for semi and anti joins of the left one
-abbrev join_columns : JoinKind → List Field → List Field → List Field
-join_columns kind a b = cond (shows_right kind) (a ++ b) a
+  pub fit : (plan : Logical) → KeepsTypes plan → ScansFit tables plan → AnswersFit tables plan
+  fit plan s f = fits-of plan (rows plan s f)
 
-pairs-fit : (a b : List Field) (x : Row) (ms : List Row) → FitsColumns a x → FitColumns b ms → FitColumns (a ++ b) (map (λ y. x ++ y) ms)
-pairs-fit a b x ms h all = All-map (FitsColumns (a ++ b)) (λ y. x ++ y) ms (All-weaker (FitsColumns b) (λ y. FitsColumns (a ++ b) (x ++ y)) (λ y k. beside a b x y h k) ms all)
-
-one-fits : (a : List Field) (x : Row) → FitsColumns a x → FitColumns a (x ∷ [])
-one-fits a x h = All-cons (FitsColumns a) x [] h (All-nil (FitsColumns a))
-
-with_matches-fit : (kind : JoinKind) (a b : List Field) (x : Row) → FitsColumns a x → (ms : List Row) → FitColumns b ms → FitColumns (join_columns kind a b) (with_matches kind (length b) x ms)
-with_matches-fit Inner a b x h ms all = pairs-fit a b x ms h all
-with_matches-fit Cross a b x h ms all = pairs-fit a b x ms h all
-with_matches-fit RightOuter a b x h ms all = pairs-fit a b x ms h all
-with_matches-fit LeftOuter a b x h ms all = where_none-all (FitsColumns (a ++ b)) ms ((x ++ nulls (length b)) ∷ []) (map (λ y. x ++ y) ms) (one-fits (a ++ b) (x ++ nulls (length b)) (beside a b x (nulls (length b)) h (nulls_fit b))) (pairs-fit a b x ms h all)
-with_matches-fit FullOuter a b x h ms all = where_none-all (FitsColumns (a ++ b)) ms ((x ++ nulls (length b)) ∷ []) (map (λ y. x ++ y) ms) (one-fits (a ++ b) (x ++ nulls (length b)) (beside a b x (nulls (length b)) h (nulls_fit b))) (pairs-fit a b x ms h all)
-with_matches-fit LeftSemi a b x h ms all = where_none-all (FitsColumns a) ms [] (x ∷ []) (All-nil (FitsColumns a)) (one-fits a x h)
-with_matches-fit LeftAnti a b x h ms all = where_none-all (FitsColumns a) ms (x ∷ []) [] (one-fits a x h) (All-nil (FitsColumns a))
-
-left_over-fit : (kind : JoinKind) (a b : List Field) (y : Row) → FitsColumns b y → (ms : List Row) → FitColumns a ms → FitColumns (join_columns kind a b) (left_over kind (length a) y ms)
-left_over-fit RightOuter a b y h ms all = where_none-all (FitsColumns (a ++ b)) ms ((nulls (length a) ++ y) ∷ []) [] (one-fits (a ++ b) (nulls (length a) ++ y) (beside a b (nulls (length a)) y (nulls_fit a) h)) (All-nil (FitsColumns (a ++ b)))
-left_over-fit FullOuter a b y h ms all = where_none-all (FitsColumns (a ++ b)) ms ((nulls (length a) ++ y) ∷ []) [] (one-fits (a ++ b) (nulls (length a) ++ y) (beside a b (nulls (length a)) y (nulls_fit a) h)) (All-nil (FitsColumns (a ++ b)))
-left_over-fit Inner a b y h ms all = All-nil (FitsColumns (a ++ b))
-left_over-fit Cross a b y h ms all = All-nil (FitsColumns (a ++ b))
-left_over-fit LeftOuter a b y h ms all = All-nil (FitsColumns (a ++ b))
-left_over-fit LeftSemi a b y h ms all = All-nil (FitsColumns a)
-left_over-fit LeftAnti a b y h ms all = All-nil (FitsColumns a)
-
-half-all : (P Q R : Row → Type 0) (each : Row → List Row → List Row) → ((x : Row) → P x → (ms : List Row) → All Q ms → All R (each x ms)) → (meets : Row → Row → Bool) (a b : List Row) → All P a → All Q b → All R (half each meets a b)
-half-all P Q R each f meets [] b h k = All-nil R
-half-all P Q R each f meets (x ∷ xs) b h k =
-    All-append R (each x (filter (meets x) b)) (half each meets xs b)
-    (f x (All-head P x xs h) (filter (meets x) b) (All-filter (meets x) Q b k))
-    (half-all P Q R each f meets xs b (All-tail P x xs h) k)
-
-join-fits : (kind : JoinKind) (a b : List Field) (meets : Row → Row → Bool) (xs ys : List Row) → FitColumns a xs → FitColumns b ys → FitColumns (join_columns kind a b) (pairs kind (length a) (length b) meets xs ys)
-join-fits kind a b meets xs ys h k =
-    All-append (FitsColumns (join_columns kind a b)) (half (with_matches kind (length b)) meets xs ys) (half (left_over kind (length a)) (λ y x. meets x y) ys xs)
-    (half-all (FitsColumns a) (FitsColumns b) (FitsColumns (join_columns kind a b)) (with_matches kind (length b)) (with_matches-fit kind a b) meets xs ys h k)
-    (half-all (FitsColumns b) (FitsColumns a) (FitsColumns (join_columns kind a b)) (left_over kind (length a)) (left_over-fit kind a b) (λ y x. meets x y) ys xs k h)
-
--- groups: the key of each is the key of a row, or the empty key of any row
-distinct-all : (P : Row → Type 0) (ks : List Row) → All P ks → All P (distinct ks)
-distinct-all P [] h = All-nil P
-distinct-all P (k ∷ ks) h =
-    All-cons P k (filter (λ j. not (row_eq k j)) (distinct ks)) (All-head P k ks h)
-    (All-filter (λ j. not (row_eq k j)) P (distinct ks) (distinct-all P ks (All-tail P k ks h)))
-
-abbrev IsKeyOf : List Field → List Expr → Row → Type 0
-IsKeyOf columns keys k = (row : Row) × FitsColumns columns row × (k ≡ row_of keys row)
-
-keys-of-rows : (columns : List Field) (keys : List Expr) (rows : List Row) → FitColumns columns rows → All (IsKeyOf columns keys) (map (row_of keys) rows)
-keys-of-rows columns keys rows h = All-map (IsKeyOf columns keys) (row_of keys) rows (All-weaker (FitsColumns columns) (λ row. IsKeyOf columns keys (row_of keys row)) (λ row f. (row, f, refl)) rows h)
-
-groups-have-keys : (columns : List Field) (keys : List Expr) (rows : List Row) → FitColumns columns rows → All (IsKeyOf columns keys) (group_keys (length keys) (map (row_of keys) rows))
-groups-have-keys columns [] rows h = All-cons (IsKeyOf columns []) [] [] (nulls (length columns), nulls_fit columns, refl) (All-nil (IsKeyOf columns []))
-groups-have-keys columns (e ∷ es) rows h = distinct-all (IsKeyOf columns (e ∷ es)) (map (row_of (e ∷ es)) rows) (keys-of-rows columns (e ∷ es) rows h)
-
-groups-fit : (columns schema : List Field) (keys : List Expr) (calls : List AggCall) (rows : List Row) →
-    ((row : Row) (group : List Row) → FitsColumns columns row → FitColumns columns group → FitsColumns schema (row_of keys row ++ map (call_value group) calls)) →
-    FitColumns columns rows → FitColumns schema (group_rows (length keys) (row_of keys) calls rows)
-groups-fit columns schema keys calls rows made h =
-    All-map (FitsColumns schema) (λ k. k ++ map (call_value (rows_with (row_of keys) k rows)) calls) (group_keys (length keys) (map (row_of keys) rows))
-    (All-weaker (IsKeyOf columns keys) (λ k. FitsColumns schema (k ++ map (call_value (rows_with (row_of keys) k rows)) calls))
-    (λ k is. subst (λ j. FitsColumns schema (j ++ map (call_value (rows_with (row_of keys) k rows)) calls)) (sym is.2)
-    (made is.0 (rows_with (row_of keys) k rows) is.1 (All-filter (λ row. row_eq k (row_of keys row)) (FitsColumns columns) rows h)))
-    (group_keys (length keys) (map (row_of keys) rows)) (groups-have-keys columns keys rows h))
-
-at_most-all : (P : Row → Type 0) (count : Option ℕ) (rows : List Row) → All P rows → All P (at_most_rows count rows)
-at_most-all P None rows h = h
-at_most-all P (Some n) rows h = All-take P n rows h
-
-fit : (tables : Tables) (plan : Logical) (l : List Row) → KeepsTypes plan → ScansFit tables plan → AnswerOf tables plan l → FitColumns (schema_of plan) l
-fit tables OneRow l s f h = rw h (one-fits [] [] tt)
-fit tables (Scan table schema) l s f h = All-permutation (FitsColumns schema) (table_rows tables table) l h f
-fit tables (filtered condition child) l s f (rows, h, e) =
-    rw e (All-filter (holds condition) (FitsColumns (schema_of child)) rows (fit tables child rows s f h))
-fit tables (projected items schema child) l (s, made) f (rows, h, e) =
-    rw e (All-map (FitsColumns schema) (row_of items) rows (All-weaker (FitsColumns (schema_of child)) (λ row. FitsColumns schema (row_of items row)) made rows (fit tables child rows s f h)))
-fit tables (joined kind condition left right) l (s, t) (f, g) (a, b, h, k, p) =
-    All-permutation (FitsColumns (schema_of (joined kind condition left right))) (pairs kind (width left) (width right) (meets condition) a b) l p
-    (join-fits kind (schema_of left) (schema_of right) (meets condition) a b (fit tables left a s f h) (fit tables right b t g k))
-fit tables (aggregated keys calls schema child) l (s, made) f (rows, h, p) =
-    All-permutation (FitsColumns schema) (group_rows (length keys) (row_of keys) calls rows) l p
-    (groups-fit (schema_of child) schema keys calls rows made (fit tables child rows s f h))
-fit tables (united left right) l (s, t, same) (f, g) (a, b, h, k, p) =
-    All-permutation (FitsColumns (schema_of left)) (a ++ b) l p
-    (All-append (FitsColumns (schema_of left)) a b (fit tables left a s f h)
-    (All-weaker (FitsColumns (schema_of right)) (FitsColumns (schema_of left)) same b (fit tables right b t g k)))
-fit tables (sorted keys child) l s f (rows, h, p, order) =
-    All-permutation (FitsColumns (schema_of child)) rows l p (fit tables child rows s f h)
-fit tables (limited count skip child) l s f (rows, h, e) =
-    rw e (at_most-all (FitsColumns (schema_of child)) count (drop skip rows) (All-drop (FitsColumns (schema_of child)) skip rows (fit tables child rows s f h)))
-fit tables (Empty schema) l s f h = rw h (All-nil (FitsColumns schema))
-fit tables (Held stage place schema) l s f h = absurd s
-fit tables (HeldPartial stage calls schema) l s f h = absurd s
-fit tables (sampled stage child) l s f h = absurd s
+  -- so does each plan within it
+  pub each-fits : (plan : Logical) → KeepsTypes plan → ScansFit tables plan → Each (AnswersFit tables) plan
+  each-fits OneRow s f = fit OneRow s f
+  each-fits (Scan table schema) s f = fit (Scan table schema) s f
+  each-fits (filtered condition child) s f = (fit (filtered condition child) s f, each-fits child s f)
+  each-fits (projected items schema child) s f = (fit (projected items schema child) s f, each-fits child s.0 f)
+  each-fits (joined kind condition left right) s f =
+      (fit (joined kind condition left right) s f, each-fits left s.0 (left-fit tables left right f), each-fits right s.1 (right-fit tables left right f))
+  each-fits (aggregated keys calls schema child) s f = (fit (aggregated keys calls schema child) s f, each-fits child s.0 f)
+  each-fits (united left right) s f =
+      (fit (united left right) s f, each-fits left s.0 (left-fit tables left right f), each-fits right s.1 (right-fit tables left right f))
+  each-fits (sorted keys child) s f = (fit (sorted keys child) s f, each-fits child s f)
+  each-fits (limited count skip child) s f = (fit (limited count skip child) s f, each-fits child s f)
+  each-fits (Empty schema) s f = fit (Empty schema) s f
+  each-fits (Held stage place schema) s f = absurd s
+  each-fits (HeldPartial stage calls schema) s f = absurd s
+  each-fits (sampled stage child) s f = absurd s
 
 pub answers_fit : AnswersFitTheColumns
-answers_fit tables plan l s f h = fit tables plan l s f h
+answers_fit tables plan l s f h = fit tables plan s f l h

@@ -51,7 +51,7 @@ columns-are n (i ∷ is) =
     (subst (λ m. IsNumbered (n + m) (columns_from (n + length i.columns) is)) (sym (numbered-length i.name n i.columns)) (columns-are (n + length i.columns) is))
 
 -- the types of the columns are those of the fields
-abbrev types : List Field → List SqlType
+abbrev pub types : List Field → List SqlType
 types fs = map (λ f. f.kind) fs
 
 numbered-kinds : (owner : Option (List ℕ)) (n : ℕ) (fs : List Field) → kinds_of (numbered owner n fs) ≡ types fs
@@ -62,11 +62,11 @@ kinds-append : (a b : List Named) → kinds_of (a ++ b) ≡ kinds_of a ++ kinds_
 kinds-append [] b = refl
 kinds-append (c ∷ cs) b = ap (λ ks. c.value.kind ∷ ks) (kinds-append cs b)
 
-types-append : (a b : List Field) → types (a ++ b) ≡ types a ++ types b
+pub types-append : (a b : List Field) → types (a ++ b) ≡ types a ++ types b
 types-append [] b = refl
 types-append (f ∷ fs) b = ap (λ ks. f.kind ∷ ks) (types-append fs b)
 
-columns-kinds : (n : ℕ) (items : List Item) → kinds_of (columns_from n items) ≡ types (flat_map (λ item. item.columns) items)
+pub columns-kinds : (n : ℕ) (items : List Item) → kinds_of (columns_from n items) ≡ types (flat_map (λ item. item.columns) items)
 columns-kinds n [] = refl
 columns-kinds n (i ∷ is) =
     kinds-append (numbered i.name n i.columns) (columns_from (n + length i.columns) is) ∙
@@ -74,7 +74,7 @@ columns-kinds n (i ∷ is) =
     (ap (λ ks. types i.columns ++ ks) (columns-kinds (n + length i.columns) is) ∙
     sym (types-append i.columns (flat_map (λ item. item.columns) is))))
 
-front-of : (fs : List Field) (row : List Value) → FitsColumns fs row → Front (types fs) row
+pub front-of : (fs : List Field) (row : List Value) → FitsColumns fs row → Front (types fs) row
 front-of [] [] h = tt
 front-of [] (v ∷ row) h = tt
 front-of (f ∷ fs) [] h = tt
@@ -83,7 +83,7 @@ front-of (f ∷ fs) (v ∷ row) h = (h.0, front-of fs row h.1)
 from_zero : (k : ℕ) → 0 + k ≡ k
 from_zero k = omega arith
 
-place-typed : (items : List Item) → PlaceTyped (over (columns_of items))
+pub place-typed : (items : List Item) → PlaceTyped (over (columns_of items))
 place-typed items = (
   all-typed (kinds_of (columns_of items)) 0 (columns_of items) (columns-are 0 items) (λ k. ap (slice_get (kinds_of (columns_of items))) (from_zero k)),
   All-nil (AliasTyped (kinds_of (columns_of items)) (length (columns_of items))),

@@ -3,4 +3,14 @@ pub mod OperationsTyped
 pub mod RowsTyped
 pub mod ReadingsTyped
 pub mod ExpressionsTyped
+pub mod FormsTyped
 pub mod AnswersTyped
+pub mod GroupedValues
+pub mod SelectsTyped
+pub mod GroupsTyped
+pub mod PlansTyped
+pub mod UnionsTyped
+pub mod QueriesTyped
+pub mod EachQuery
+pub mod WalkTyped
+pub mod KnownAnswers

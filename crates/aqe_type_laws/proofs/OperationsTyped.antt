@@ -84,7 +84,7 @@ module _ (R : List Value → Type 0) where
   pub cast-typed : (kind : SqlType) (a : Typed) → Typed_over (cast kind a)
   cast-typed kind a row r = cast_to-fits row kind a.expr
 
-  converted-typed : (kind : SqlType) (a : Typed) → Typed_over a → (row : List Value) → R row → IsOf (val row (converted kind a)) kind
+  pub converted-typed : (kind : SqlType) (a : Typed) → Typed_over a → (row : List Value) → R row → IsOf (val row (converted kind a)) kind
   converted-typed kind a h row r =
       either_known (λ e. IsOf (val row e) kind) (is_same_kind a.kind kind) a.expr (cast_to kind a.expr)
       (λ same. subst (λ k. IsOf (val row a.expr) k) (same_kind a.kind kind same) (h row r)) (cast_to-fits row kind a.expr)

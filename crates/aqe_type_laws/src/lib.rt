@@ -3,4 +3,7 @@
 
 mod laws;
 
-pub use laws::{answers_fit_the_columns, expressions_are_typed};
+pub use laws::{
+    answers_fit_the_columns, expressions_are_typed, nodes_are_typed, plans_are_typed,
+    plans_keep_types, tables_fit_the_scans,
+};
