@@ -154,7 +154,7 @@ calls_if-fit true items list having sorts =
     calls-fit (over (columns_of items)) (with_aliases (columns_of items) list []) (over-fits (columns_of items) (whole-items items)) (aliases-fit (columns_of items) list [] (whole-items items)) refl list having sorts
 calls_if-fit false items list having sorts = All-nil (CallFits (length (columns_of items)))
 
-calls_if-ruled : (b : Bool) (items : List Item) (list : List ItemTree) (having : Option OrTree) (sorts : List SortTree) → Ruled b (calls_if b items list having sorts)
+pub calls_if-ruled : (b : Bool) (items : List Item) (list : List ItemTree) (having : Option OrTree) (sorts : List SortTree) → Ruled b (calls_if b items list having sorts)
 calls_if-ruled true items list having sorts = tt
 calls_if-ruled false items list having sorts = refl
 

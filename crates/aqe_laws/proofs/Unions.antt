@@ -23,13 +23,13 @@ use Rattle.aqe_laws.proofs.Sources.{within-laid}
 use Rattle.aqe_laws.proofs.Plans.{Has, distinct-laid}
 
 -- as many common types as columns, where both sides have as many
-abbrev Enough : List Field → List Field → List SqlType → Type 0
+abbrev pub Enough : List Field → List Field → List SqlType → Type 0
 Enough fs gs kinds = length fs ≡ length gs → length kinds ≡ length fs
 
 abbrev AnyKind : SqlType → Type 0
 AnyKind kind = Unit {0}
 
-kinds-enough : (fs gs : List Field) → Gives (Enough fs gs) (common_kinds fs gs)
+pub kinds-enough : (fs gs : List Field) → Gives (Enough fs gs) (common_kinds fs gs)
 kinds-enough [] gs = λ e. refl
 kinds-enough (f ∷ fs) [] = λ e. omega (arith, e)
 kinds-enough (f ∷ fs) (g ∷ gs) =

@@ -50,15 +50,15 @@ use Rattle.aqe_laws.proofs.OperationsBelow.{either_one}
 
 -- what holds of each tree of a query where it holds of the trees that it is made of
 pub record Parts (OfCore : CoreTree → Type 0) (OfSource : SourceTree → Type 0) (OfStep : JoinStep → Type 0) (OfJoined : JoinedTree → Type 0) (OfQuery : QueryTree → Type 0) (OfSelect : SelectTree → Type 0) (OfUnion : UnionTree → Type 0) : Type 0 where
-  paren : (query : QueryTree) → OfQuery query → OfCore (core.Paren query)
-  lone : (select : SelectTree) → OfSelect select → OfCore (core.Select select)
-  table : (name : List ℕ) (alias : Option (List ℕ)) → OfSource (source.Table name alias)
-  subquery : (query : QueryTree) (alias : Option (List ℕ)) → OfQuery query → OfSource (source.Paren query alias)
-  step : (kind : JoinKind) (from : SourceTree) (on : Option OrTree) → OfSource from → OfStep (join_step kind from on)
-  chain : (first : SourceTree) (rest : List JoinStep) → OfSource first → All OfStep rest → OfJoined (joined_tree first rest)
-  whole : (body : UnionTree) (order : List SortTree) (limit offset : Option ℕ) → OfUnion body → OfQuery (query_tree body order limit offset)
-  select : (distinct : Bool) (items : List ItemTree) (from : List JoinedTree) (filter : Option OrTree) (group : List OrTree) (having : Option OrTree) → All OfJoined from → OfSelect (select_tree distinct items from filter group having)
-  union : (first : CoreTree) (rest : List (Bool × CoreTree)) → OfCore first → All (λ next. OfCore next.1) rest → OfUnion (union_tree first rest)
+  pub paren : (query : QueryTree) → OfQuery query → OfCore (core.Paren query)
+  pub lone : (select : SelectTree) → OfSelect select → OfCore (core.Select select)
+  pub table : (name : List ℕ) (alias : Option (List ℕ)) → OfSource (source.Table name alias)
+  pub subquery : (query : QueryTree) (alias : Option (List ℕ)) → OfQuery query → OfSource (source.Paren query alias)
+  pub step : (kind : JoinKind) (from : SourceTree) (on : Option OrTree) → OfSource from → OfStep (join_step kind from on)
+  pub chain : (first : SourceTree) (rest : List JoinStep) → OfSource first → All OfStep rest → OfJoined (joined_tree first rest)
+  pub whole : (body : UnionTree) (order : List SortTree) (limit offset : Option ℕ) → OfUnion body → OfQuery (query_tree body order limit offset)
+  pub select : (distinct : Bool) (items : List ItemTree) (from : List JoinedTree) (filter : Option OrTree) (group : List OrTree) (having : Option OrTree) → All OfJoined from → OfSelect (select_tree distinct items from filter group having)
+  pub union : (first : CoreTree) (rest : List (Bool × CoreTree)) → OfCore first → All (λ next. OfCore next.1) rest → OfUnion (union_tree first rest)
 
 -- trees of one level, each with its proof
 each_proved : {X : Type 0} (R : X → Type 0) (all : List ((x : X) × R x)) → All R (map (λ e. e.0) all)
@@ -90,14 +90,14 @@ module _ (OfCore : CoreTree → Type 0) (OfSource : SourceTree → Type 0) (OfSt
 -- Steps of the walk that keep what holds of a plan.
 
 -- whatever the first step gives
-gives_after : {T U : Type 0} (Q : U → Type 0) (o : Outcome T) (next : T → Outcome U) → ((t : T) → Gives Q (next t)) → Gives Q (upon o next)
+pub gives_after : {T U : Type 0} (Q : U → Type 0) (o : Outcome T) (next : T → Outcome U) → ((t : T) → Gives Q (next t)) → Gives Q (upon o next)
 gives_after Q o next k = gives_upon (λ t. Unit {0}) Q o next (any o) (λ t u. k t)
   where
     any : {T : Type 0} (o : Outcome T) → Gives (λ t. Unit {0}) o
     any (Ok t) = tt
     any (Err check) = tt
 
-limits-keep : (P : Logical → Type 0) (p : Logical) → P p → Gives P (within_limits p)
+pub limits-keep : (P : Logical → Type 0) (p : Logical) → P p → Gives P (within_limits p)
 limits-keep P p h =
     gives_provided P (nat_le (operator_count p) operator_limit) too_many_operators (provided (nat_le (most_columns p) column_limit) too_many_columns (Ok p))
     (gives_provided P (nat_le (most_columns p) column_limit) too_many_columns (Ok p) h)

@@ -1,18 +1,14 @@
 -- The order under sort keys, and that it orders.
-use Rattle.std.proofs.Common.{◌≡◌, Bool, true, false, List, [], ◌∷◌, map, refl, ap, sym, ◌∙◌}
+use Rattle.std.proofs.Common.{◌≡◌, true, false, refl, ap, sym, ◌∙◌}
 use Rattle.std.specs.Cmp.{IsTotalOrder}
-use Rattle.std.specs.Ordering.{ordering_then, ordering_reverse, is_lt}
+use Rattle.std.specs.Ordering.{ordering_reverse, is_lt}
 use Rattle.std.specs.declared.cmp.Ordering.{Ordering}
 use Rattle.std.specs.declared.cmp.Ordering.TheVariants.{Less, Equal, Greater}
-use Rattle.aqe_values.specs.Order.{way_cmp}
 use Rattle.aqe_values.specs.KeyOrder.{key_order}
 use Rattle.aqe_values.proofs.TotalOrders.{keys_total}
-use Rattle.aqe_expr.specs.Meaning.{val}
-use Rattle.aqe_logical.specs.declared.plan.SortKey.{SortKey}
 use Rattle.aqe_logical.specs.Answers.{Row}
-use Rattle.aqe_logical.specs.Groups.{row_of}
-use Rattle.aqe_logical.specs.Order.{row_order, before, ways_of, key_of}
-use Rattle.aqe_places.specs.Laws.{IsOrder, SortKeysDecideInTurn, SortKeysOrder}
+use Rattle.aqe_logical.specs.Order.{row_order, ways_of, key_of}
+use Rattle.aqe_places.specs.Laws.{SortKeysDecideInTurn, SortKeysOrder}
 
 pub in_turn : SortKeysDecideInTurn
 in_turn key keys x y = refl

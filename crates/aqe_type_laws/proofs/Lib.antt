@@ -11,6 +11,5 @@ pub mod GroupsTyped
 pub mod PlansTyped
 pub mod UnionsTyped
 pub mod QueriesTyped
-pub mod EachQuery
 pub mod WalkTyped
 pub mod KnownAnswers

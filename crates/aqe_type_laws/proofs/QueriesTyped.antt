@@ -1,5 +1,5 @@
 -- The plan of a SELECT with its ORDER BY, over what FROM shows.
-use Rattle.std.proofs.Common.{◌≡◌, Bool, true, false, cond, List, [], map, length, Option, Some, None, Ok, Err, option_map, arith, refl, sym, subst}
+use Rattle.std.proofs.Common.{◌≡◌, Bool, cond, List, [], map, length, Option, Some, None, Ok, Err, option_map, arith, refl, sym, subst}
 use Rattle.std.specs.Prelude.{All}
 use Rattle.std.proofs.lemmas.List.Elements.{All-map, All-weaker}
 use Rattle.aqe_values.specs.declared.schema.Field.{Field}
@@ -19,11 +19,13 @@ use Rattle.aqe_rules.specs.Sources.{Item, From, columns_of, numbered, condition,
 use Rattle.aqe_rules.specs.Selects.{Output, at, with_aliases, outputs, grouping_keys, is_grouped, built, having_condition}
 use Rattle.aqe_rules.specs.Plans.{fields_of, sortings, hidden_columns, keys_of, sorted_by, without_hidden, hidden_output, shown_columns, no_hidden}
 use Rattle.aqe_rules.specs.Analysis.{Selected, plan_of, hide, sorted_plan, select_parts, calls_if, select_over}
-use Rattle.aqe_rules.proofs.Gives.{Gives, gives_upon, gives_all}
+use Rattle.aqe_rules.proofs.Gives.{Gives, gives_upon}
 use Rattle.aqe_laws.proofs.OperationsBelow.{Below, either_one}
 use Rattle.aqe_laws.proofs.Sources.{Whole, numbered-fit, numbered-length}
 use Rattle.aqe_laws.proofs.Selects.{Ruled, grouping_keys-below}
 use Rattle.aqe_laws.proofs.Plans.{SortingFits, sortings-fit, hidden-all}
+use Rattle.aqe_laws.proofs.Queries.{calls_if-ruled}
+use Rattle.aqe_laws.proofs.Walks.{gives_after}
 use Rattle.aqe_type_laws.specs.Plans.{KeepsTypes}
 use Rattle.aqe_type_laws.proofs.OperationsTyped.{Typed_over}
 use Rattle.aqe_type_laws.proofs.RowsTyped.{Front, CallTyped}
@@ -37,10 +39,6 @@ use Rattle.aqe_type_laws.proofs.PlansTyped.{OutputTyped, RowsOf, select-keeps}
 gives_both : {T : Type 0} (P Q : T → Type 0) (o : Outcome T) → Gives P o → Gives Q o → Gives (λ t. P t × Q t) o
 gives_both P Q (Ok t) h k = (h, k)
 gives_both P Q (Err check) h k = tt
-
--- whatever the first step gives
-pub gives_after : {T U : Type 0} (Q : U → Type 0) (o : Outcome T) (next : T → Outcome U) → ((t : T) → Gives Q (next t)) → Gives Q (upon o next)
-gives_after Q o next k = gives_upon (λ t. Unit {0}) Q o next (gives_all (λ t. Unit {0}) (λ t. tt) o) (λ t u. k t)
 
 -- rows of items
 pub items-rows : (items : List Item) → RowsOf (columns_of items) (fields items)
@@ -143,10 +141,6 @@ module _ (distinct : Bool) (list : List ItemTree) (has_from : Bool) (filter : Op
       (outputs-typed keys ruled q.1) (λ outs r.
       gives_after Fine (if_any (option_map (having_condition (built grouped keys cols) (with_aliases cols list all)) having)) (λ cond. Ok (made below keys outs cond)) (λ cond.
       ((p.0, rows-of below p.1, q.0, q.1, r), refl, refl)))))
-
-calls_if-ruled : (b : Bool) (items : List Item) (list : List ItemTree) (having : Option OrTree) (sorts : List SortTree) → Ruled b (calls_if b items list having sorts)
-calls_if-ruled true items list having sorts = tt
-calls_if-ruled false items list having sorts = refl
 
 -- a SELECT, where it is known whether it is grouped
 select_known-keeps : (b distinct : Bool) (list : List ItemTree) (has_from : Bool) (filter : Option OrTree) (group : List OrTree) (having : Option OrTree) (sorts : List SortTree) (from : From) → FromTyped from →

@@ -1,5 +1,5 @@
 -- The nodes of the plan of a UNION give what their columns say, where those of both sides do.
-use Rattle.std.proofs.Common.{◌≡◌, ℕ, suc, ◌+◌, ◌==◌, Bool, true, List, [], ◌∷◌, length, Ok, arith, refl, sym, ap, subst, ◌∙◌, eqb-true}
+use Rattle.std.proofs.Common.{◌≡◌, ℕ, suc, ◌+◌, ◌==◌, Bool, true, List, [], ◌∷◌, length, arith, refl, sym, ap, subst, ◌∙◌, eqb-true}
 use Rattle.std.specs.Prelude.{slice_index_or}
 use Rattle.std.proofs.lemmas.List.{append-nil}
 use Rattle.aqe_base.specs.declared.status.AnalysisKind.TheVariants.{UnionWidth}
@@ -12,16 +12,18 @@ use Rattle.aqe_logical.specs.Shapes.{projected, united}
 use Rattle.aqe_logical.specs.Answers.{Row}
 use Rattle.aqe_logical.specs.Columns.{schema_of, width}
 use Rattle.aqe_logical.specs.Groups.{row_of}
-use Rattle.aqe_rules.specs.Outcomes.{refused, upon, provided, present}
-use Rattle.aqe_rules.specs.Kinds.{common, is_same_kind}
-use Rattle.aqe_rules.specs.Operations.{typed, mismatch}
+use Rattle.aqe_rules.specs.Outcomes.{refused, provided}
+use Rattle.aqe_rules.specs.Kinds.{is_same_kind}
+use Rattle.aqe_rules.specs.Operations.{typed}
 use Rattle.aqe_rules.specs.Limits.{within_limits}
 use Rattle.aqe_rules.specs.Plans.{distinct_if}
 use Rattle.aqe_rules.specs.Unions.{common_kinds, has_kinds, cast_columns, cast_fields, cast_side, union_of}
-use Rattle.aqe_rules.proofs.Gives.{Gives, gives_upon, gives_all, gives_weaker}
+use Rattle.aqe_rules.proofs.Gives.{Gives, gives_upon}
 use Rattle.aqe_laws.proofs.OperationsBelow.{either_one}
-use Rattle.aqe_laws.proofs.Bounds.{Bounded, passed, within-bounded}
+use Rattle.aqe_laws.proofs.Bounds.{passed}
 use Rattle.aqe_laws.proofs.Same as same
+use Rattle.aqe_laws.proofs.Unions.{Enough, kinds-enough}
+use Rattle.aqe_laws.proofs.Walks.{limits-keep}
 use Rattle.aqe_type_laws.specs.Fits.{IsOf, FitsColumns}
 use Rattle.aqe_type_laws.specs.Plans.{KeepsTypes}
 use Rattle.aqe_type_laws.proofs.Values.{same_kind}
@@ -93,26 +95,6 @@ side-types : (ks : List SqlType) (plan : Logical) → length ks ≡ width plan �
 side-types ks plan e =
     either_known (λ p. types (schema_of p) ≡ ks) (has_kinds ks (schema_of plan)) plan (projected (cast_columns 0 ks (schema_of plan)) (cast_fields ks (schema_of plan)) plan)
     (λ h. has-types ks (schema_of plan) e h) (cast-types ks (schema_of plan) e)
-
--- as many common types as columns, where both sides have as many
-abbrev Enough : List Field → List Field → List SqlType → Type 0
-Enough fs gs kinds = length fs ≡ length gs → length kinds ≡ length fs
-
-abbrev AnyKind : SqlType → Type 0
-AnyKind kind = Unit {0}
-
-kinds-enough : (fs gs : List Field) → Gives (Enough fs gs) (common_kinds fs gs)
-kinds-enough [] gs = λ e. refl
-kinds-enough (f ∷ fs) [] = λ e. omega (arith, e)
-kinds-enough (f ∷ fs) (g ∷ gs) =
-    gives_upon AnyKind (Enough (f ∷ fs) (g ∷ gs)) (present (common f.kind g.kind) mismatch) (λ kind. upon (common_kinds fs gs) (λ kinds. Ok (kind ∷ kinds)))
-    (gives_all AnyKind (λ k. tt) (present (common f.kind g.kind) mismatch)) (λ kind u.
-    gives_upon (Enough fs gs) (Enough (f ∷ fs) (g ∷ gs)) (common_kinds fs gs) (λ kinds. Ok (kind ∷ kinds)) (kinds-enough fs gs) (λ kinds h e.
-    (let rest : length kinds ≡ length fs = h (omega (arith, e)) in omega (arith, rest))))
-
--- what keeps the limits is the plan itself
-pub limits-keep : (P : Logical → Type 0) (p : Logical) → P p → Gives P (within_limits p)
-limits-keep P p h = gives_weaker (λ q. P q × Bounded q) P (λ q k. k.0) (within_limits p) (within-bounded P p h)
 
 pub union-keeps : (distinct : Bool) (left right : Logical) → KeepsTypes left → KeepsTypes right → Gives KeepsTypes (union_of distinct left right)
 union-keeps distinct left right g h =

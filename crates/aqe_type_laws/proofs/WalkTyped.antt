@@ -32,12 +32,12 @@ use Rattle.aqe_laws.specs.Scans.{scanned_tables, HasItsColumns}
 use Rattle.aqe_laws.proofs.Scans.{of_the_catalog}
 use Rattle.aqe_type_laws.specs.Plans.{AnswersFit, KeepsTypes, RowsFit}
 use Rattle.aqe_type_laws.specs.Laws.{PlansKeepTypes, PlansAreTyped, NodesAreTyped, TablesFitTheScans}
-use Rattle.aqe_type_laws.proofs.EachQuery.{Parts, each_query}
+use Rattle.aqe_laws.proofs.Walks.{Parts, each_query, gives_after, limits-keep}
 use Rattle.aqe_type_laws.proofs.AnswersTyped.{fit, each-fits}
 use Rattle.aqe_type_laws.proofs.GroupsTyped.{fields}
 use Rattle.aqe_type_laws.proofs.PlansTyped.{sorted-keeps}
-use Rattle.aqe_type_laws.proofs.UnionsTyped.{limits-keep, union-keeps}
-use Rattle.aqe_type_laws.proofs.QueriesTyped.{gives_after, FromTyped, select_over-keeps}
+use Rattle.aqe_type_laws.proofs.UnionsTyped.{union-keeps}
+use Rattle.aqe_type_laws.proofs.QueriesTyped.{FromTyped, select_over-keeps}
 
 -- the columns of a join are those of the items that it shows
 shown-fields : (b : Bool) (a c : List Field) (l r : List Item) → a ≡ fields l → c ≡ fields r → cond b (a ++ c) a ≡ fields (cond b (l ++ r) l)
