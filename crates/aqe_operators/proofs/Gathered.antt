@@ -68,7 +68,7 @@ row_whole form calls groups row all =
     inserted_whole form calls groups (key_by form row) (stepped form 0 calls (unwrap_or (lookup (row_eq (key_by form row)) groups) (started calls)) row) all
     (key_narrow form row, stepped_length form 0 calls (unwrap_or (lookup (row_eq (key_by form row)) groups) (started calls)) row (found_whole form calls (row_eq (key_by form row)) groups all))
 
-rows_whole : (form : Form) (calls : List AggCall) (groups : List Group) (rows : List Row) → All (IsWhole form calls) groups → All (IsWhole form calls) (fold (with_row form calls) groups rows)
+pub rows_whole : (form : Form) (calls : List AggCall) (groups : List Group) (rows : List Row) → All (IsWhole form calls) groups → All (IsWhole form calls) (fold (with_row form calls) groups rows)
 rows_whole form calls groups [] all = all
 rows_whole form calls groups (row ∷ rows) all = rows_whole form calls (with_row form calls groups row) rows (row_whole form calls groups row all)
 

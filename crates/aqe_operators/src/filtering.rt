@@ -2,6 +2,7 @@
 
 ghost use Rattle.std.specs.Prelude.{◌≡◌, ◌∷◌, ◌++◌, [], filter, IfOk, OnOk};
 ghost use Rattle.aqe_expr.specs.Meaning.{holds};
+ghost use Rattle.aqe_operators.specs.Lent.{lent_rows};
 
 use aqe_base::Memory;
 use aqe_expr::{Expr, eval, truth};
@@ -18,12 +19,12 @@ pub fn filter_rows(alloc: Global, cond: &Expr, rows: Rows) -> Result<Rows, Memor
     }
 }
 
-/// Appends copies of those of the rows of which the condition holds, in their order. No other row is copied.
-pub fn push_kept(alloc: Global, cond: &Expr, rows: &[Row], kept: &mut Rows) -> Result<(), Memory>
-    ensures { OnOk result (kept.new ≡ kept.old ++ filter (holds cond.now) rows.now) }
+/// Copies of those of the lent rows of which the condition holds, in their order. No other row is copied.
+pub fn filter_lent(alloc: Global, cond: &Expr, pieces: &[&[Row]]) -> Result<Rows, Memory>
+    ensures { IfOk result (λ kept. kept ≡ filter (holds cond.now) (lent_rows pieces.now)) }
 {
-    match keep_lent(alloc, cond, rows, kept) {
-        Ok(()) => Ok(()),
+    match kept_lent(alloc, cond, pieces) {
+        Ok(kept) => Ok(kept),
         Err(_) => Err(Memory),
     }
 }
@@ -71,8 +72,9 @@ fn keep_copy(
     Ok(())
 }
 
+/// Appends copies of those of the rows of which the condition holds.
 #[tactic(auto, using(crate::proofs::Taken::kept_more))]
-fn keep_lent(
+fn keep_copies(
     alloc: Global,
     cond: &Expr,
     rows: &[Row],
@@ -84,4 +86,15 @@ fn keep_lent(
         keep_copy(alloc, cond, row, kept)?;
     }
     Ok(())
+}
+
+#[tactic(auto, using(crate::proofs::Taken::kept_piece))]
+fn kept_lent(alloc: Global, cond: &Expr, pieces: &[&[Row]]) -> Result<Rows, aqe_values::Memory>
+    ensures { IfOk result (λ kept. kept ≡ filter (holds cond.now) (lent_rows pieces.now)) }
+{
+    let mut kept = Rows::new(alloc);
+    'pieces: for piece in pieces {
+        keep_copies(alloc, cond, piece, &mut kept)?;
+    }
+    Ok(kept)
 }

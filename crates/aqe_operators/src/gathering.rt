@@ -6,6 +6,7 @@ ghost use Rattle.indexmap.specs.IndexMap.{insert_entry};
 ghost use Rattle.aqe_values.specs.Bounds.{row_limit};
 ghost use Rattle.aqe_values.specs.Equality.{row_eq};
 ghost use Rattle.aqe_operators.specs.Forms.{IsNarrow};
+ghost use Rattle.aqe_operators.specs.Lent.{lent_rows};
 ghost use Rattle.aqe_operators.specs.Gathering.{IsWhole, started, stepped, with_row, begun, gathered, flat};
 
 use crate::form::{Form, key_of, width_of};
@@ -69,19 +70,39 @@ fn add_row(
     add_to_group(alloc, form, calls, groups, key, row)
 }
 
-/// The groups of the rows.
+/// Adds the rows of a piece.
+#[tactic(auto, using(crate::proofs::Taken::folded_more))]
+fn add_rows(
+    alloc: Global,
+    form: &Form<'_>,
+    calls: &[AggCall],
+    groups: &mut Groups,
+    rows: &[Row],
+) -> Result<(), Memory>
+    requires width { IsNarrow form.now calls.now }
+    requires groups { All (IsWhole form.now calls.now) groups.old.entries }
+    ensures { OnOk result (groups.new.entries ≡ fold (with_row form.now calls.now) groups.old.entries rows.now) }
+{
+    'rows: for row in rows {
+        add_row(alloc, form, calls, groups, row)?;
+    }
+    Ok(())
+}
+
+/// The groups of the lent rows.
+#[tactic(auto, using(crate::proofs::Taken::folded_piece))]
 pub(crate) fn gather(
     alloc: Global,
     form: &Form<'_>,
     calls: &[AggCall],
-    rows: &[Row],
+    pieces: &[&[Row]],
 ) -> Result<Groups, Memory>
     requires { IsNarrow form.now calls.now }
-    ensures { IfOk result (λ groups. groups.entries ≡ gathered form.now calls.now rows.now) }
+    ensures { IfOk result (λ groups. groups.entries ≡ gathered form.now calls.now (lent_rows pieces.now)) }
 {
     let mut groups = begin(alloc, form, calls)?;
-    'rows: for row in rows {
-        add_row(alloc, form, calls, &mut groups, row)?;
+    'pieces: for piece in pieces {
+        add_rows(alloc, form, calls, &mut groups, piece)?;
     }
     Ok(groups)
 }

@@ -9,6 +9,6 @@ mod merging;
 mod projecting;
 mod tally;
 
-pub use aggregating::{final_rows, partial_rows};
-pub use filtering::{filter_rows, push_kept};
-pub use projecting::{project_rows, push_projected};
+pub use aggregating::{final_lent, final_rows, partial_lent, partial_rows};
+pub use filtering::{filter_lent, filter_rows};
+pub use projecting::{project_lent, project_rows};
