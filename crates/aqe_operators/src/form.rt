@@ -22,13 +22,48 @@ pub(crate) enum Form<'a> {
     Partial(usize),
 }
 
-/// The number of values of a key.
-pub(crate) fn width_of(form: &Form<'_>) -> usize
-    ensures { result ≡ key_width form.now }
-{
-    match form {
-        Form::Plain(keys) => keys.len(),
-        Form::Partial(keys) => *keys,
+impl<'a> Form<'a> {
+    /// The number of values of a key.
+    pub fn width(&self) -> usize
+        ensures { result ≡ key_width self.now }
+    {
+        match self {
+            Form::Plain(keys) => keys.len(),
+            Form::Partial(keys) => *keys,
+        }
+    }
+
+    /// The key of a row.
+    pub fn key_of(&self, alloc: Global, row: &Row) -> Result<Row, Memory>
+        requires { key_width self.now ≤ row_limit }
+        ensures { IfOk result (λ key. key ≡ key_by self.now row.now) }
+    {
+        match self {
+            Form::Plain(keys) => row_of(alloc, keys, row),
+            Form::Partial(keys) => front_of(alloc, *keys, row),
+        }
+    }
+
+    /// Merges what the row adds to the call at place `i`.
+    pub fn add_part(
+        &self,
+        alloc: Global,
+        i: usize,
+        call: &AggCall,
+        value: &mut Value,
+        row: &Row,
+    ) -> Result<(), Memory>
+        requires { key_width self.now + i ≤ row_limit }
+        ensures { OnOk result (value.new ≡ merged call.now.fun value.old (part_by self.now i call.now row.now)) }
+    {
+        match self {
+            Form::Plain(_) => {
+                let argument = eval(alloc, &call.arg, row)?;
+                merge(call.fun, value, single(call.fun, argument));
+                Ok(())
+            }
+            Form::Partial(keys) => merge_at(alloc, call, value, row, *keys + i),
+        }
     }
 }
 
@@ -43,17 +78,6 @@ fn front_of(alloc: Global, n: usize, row: &Row) -> Result<Row, Memory>
         front.push(value.copy(alloc)?)?;
     }
     Ok(front)
-}
-
-/// The key of a row.
-pub(crate) fn key_of(alloc: Global, form: &Form<'_>, row: &Row) -> Result<Row, Memory>
-    requires { key_width form.now ≤ row_limit }
-    ensures { IfOk result (λ key. key ≡ key_by form.now row.now) }
-{
-    match form {
-        Form::Plain(keys) => row_of(alloc, keys, row),
-        Form::Partial(keys) => front_of(alloc, *keys, row),
-    }
 }
 
 /// Merges the value at a place of the row, or NULL where the row ends before it.
@@ -72,27 +96,5 @@ fn merge_at(
             merge(call.fun, value, Value::Null);
             Ok(())
         }
-    }
-}
-
-/// Merges what the row adds to the call at place `i`.
-pub(crate) fn add_part(
-    alloc: Global,
-    form: &Form<'_>,
-    i: usize,
-    call: &AggCall,
-    value: &mut Value,
-    row: &Row,
-) -> Result<(), Memory>
-    requires { key_width form.now + i ≤ row_limit }
-    ensures { OnOk result (value.new ≡ merged call.now.fun value.old (part_by form.now i call.now row.now)) }
-{
-    match form {
-        Form::Plain(_) => {
-            let argument = eval(alloc, &call.arg, row)?;
-            merge(call.fun, value, single(call.fun, argument));
-            Ok(())
-        }
-        Form::Partial(keys) => merge_at(alloc, call, value, row, *keys + i),
     }
 }

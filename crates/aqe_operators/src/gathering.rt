@@ -9,8 +9,8 @@ ghost use Rattle.aqe_operators.specs.Forms.{IsNarrow};
 ghost use Rattle.aqe_operators.specs.Lent.{lent_rows};
 ghost use Rattle.aqe_operators.specs.Gathering.{IsWhole, started, stepped, with_row, begun, gathered, flat};
 
-use crate::form::{Form, key_of, width_of};
-use crate::tally::{Tally, add, first, start};
+use crate::form::Form;
+use crate::tally::Tally;
 use aqe_logical::AggCall;
 use aqe_values::{Memory, Row, Rows};
 use indexmap::IndexMap;
@@ -35,9 +35,9 @@ fn add_to_group(
         (stepped form.now 0 calls.now (unwrap_or (lookup (row_eq key) groups.old.entries) (started calls.now)) row.now)) }
 {
     match groups.entry(key)? {
-        Entry::Occupied(group) => add(alloc, form, calls, group.into_mut(), row),
+        Entry::Occupied(group) => group.into_mut().add(alloc, form, calls, row),
         Entry::Vacant(place) => {
-            place.insert(first(alloc, form, calls, row)?);
+            place.insert(Tally::of_row(alloc, form, calls, row)?);
             Ok(())
         }
     }
@@ -48,8 +48,8 @@ fn begin(alloc: Global, form: &Form<'_>, calls: &[AggCall]) -> Result<Groups, Me
     ensures { IfOk result (λ groups. groups.entries ≡ begun form.now calls.now) }
 {
     let mut groups = IndexMap::new(alloc);
-    if width_of(form) == 0 {
-        groups.insert(Row::new(alloc), start(alloc, calls)?)?;
+    if form.width() == 0 {
+        groups.insert(Row::new(alloc), Tally::start(alloc, calls)?)?;
     }
     Ok(groups)
 }
@@ -66,7 +66,7 @@ fn add_row(
     requires groups { All (IsWhole form.now calls.now) groups.old.entries }
     ensures { OnOk result (groups.new.entries ≡ with_row form.now calls.now groups.old.entries row.now) }
 {
-    let key = key_of(alloc, form, row)?;
+    let key = form.key_of(alloc, row)?;
     add_to_group(alloc, form, calls, groups, key, row)
 }
 

@@ -11,6 +11,16 @@ use aqe_values::{Memory, SortWay, Value, compare};
 use std::alloc::Global;
 use std::cmp::Ordering;
 
+const LEAST_FIRST: SortWay = SortWay {
+    descending: false,
+    nulls_last: true,
+};
+
+const GREATEST_FIRST: SortWay = SortWay {
+    descending: true,
+    nulls_last: true,
+};
+
 /// The number that an INT or a BIGINT is.
 fn number(value: &Value) -> Option<i64>
     ensures { result ≡ number_of value.now }
@@ -83,34 +93,6 @@ fn is_behind(a: &Value, b: &Value, way: SortWay) -> bool
     compare(a, b, way) == Ordering::Greater
 }
 
-/// Whether the part is to stand in place of the value: as the lesser one.
-fn is_less(part: &Value, value: &Value) -> bool
-    ensures { result ≡ spec.is_greater (way_cmp spec.ascending value.now part.now) }
-{
-    is_behind(
-        value,
-        part,
-        SortWay {
-            descending: false,
-            nulls_last: true,
-        },
-    )
-}
-
-/// Whether the part is to stand in place of the value: as the greater one.
-fn is_more(part: &Value, value: &Value) -> bool
-    ensures { result ≡ spec.is_greater (way_cmp spec.descending value.now part.now) }
-{
-    is_behind(
-        value,
-        part,
-        SortWay {
-            descending: true,
-            nulls_last: true,
-        },
-    )
-}
-
 /// The count of both.
 fn counted(a: &Value, b: &Value) -> Value
     ensures { result ≡ spec.merged AggFun.Count a.now b.now }
@@ -133,12 +115,12 @@ pub(crate) fn merge(fun: AggFun, value: &mut Value, part: Value)
         AggFun::Count => *value = counted(value, &part),
         AggFun::Sum => *value = summed(value, &part),
         AggFun::Min => {
-            if is_less(&part, value) {
+            if is_behind(value, &part, LEAST_FIRST) {
                 *value = part;
             }
         }
         AggFun::Max => {
-            if is_more(&part, value) {
+            if is_behind(value, &part, GREATEST_FIRST) {
                 *value = part;
             }
         }
@@ -158,12 +140,12 @@ pub(crate) fn merge_lent(
         AggFun::Count => *value = counted(value, part),
         AggFun::Sum => *value = summed(value, part),
         AggFun::Min => {
-            if is_less(part, value) {
+            if is_behind(value, part, LEAST_FIRST) {
                 *value = part.copy(alloc)?;
             }
         }
         AggFun::Max => {
-            if is_more(part, value) {
+            if is_behind(value, part, GREATEST_FIRST) {
                 *value = part.copy(alloc)?;
             }
         }

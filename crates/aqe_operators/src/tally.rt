@@ -4,7 +4,7 @@ ghost use Rattle.std.specs.Prelude.{◌≡◌, ◌∷◌, ◌++◌, [], length, 
 ghost use Rattle.aqe_operators.specs.Forms.{IsNarrow};
 ghost use Rattle.aqe_operators.specs.Gathering.{started, stepped};
 
-use crate::form::{Form, add_part};
+use crate::form::Form;
 use crate::merging::nothing;
 use aqe_logical::AggCall;
 use aqe_values::{Memory, Row, Value};
@@ -26,18 +26,51 @@ impl Model for Tally {
     ghost view = { λ t. t.values.items };
 }
 
-/// The tally of no row.
-pub(crate) fn start(alloc: Global, calls: &[AggCall]) -> Result<Tally, Memory>
-    ensures { IfOk result (λ tally. tally ≡ started calls.now) }
-{
-    let mut values = Vec::with_capacity(alloc, calls.len())?;
-    'calls: for call in calls {
-        values.push(nothing(call.fun))?;
+impl Tally {
+    /// The tally of no row.
+    pub fn start(alloc: Global, calls: &[AggCall]) -> Result<Tally, Memory>
+        ensures { IfOk result (λ tally. tally ≡ started calls.now) }
+    {
+        let mut values = Vec::with_capacity(alloc, calls.len())?;
+        'calls: for call in calls {
+            values.push(nothing(call.fun))?;
+        }
+        Ok(Tally { values })
     }
-    Ok(Tally { values })
+
+    /// The tally of one row.
+    pub fn of_row(
+        alloc: Global,
+        form: &Form<'_>,
+        calls: &[AggCall],
+        row: &Row,
+    ) -> Result<Tally, Memory>
+        requires { IsNarrow form.now calls.now }
+        ensures { IfOk result (λ tally. tally ≡ stepped form.now 0 calls.now (started calls.now) row.now) }
+    {
+        let mut tally = Tally::start(alloc, calls)?;
+        tally.add(alloc, form, calls, row)?;
+        Ok(tally)
+    }
+
+    /// Adds a row.
+    pub fn add(
+        &mut self,
+        alloc: Global,
+        form: &Form<'_>,
+        calls: &[AggCall],
+        row: &Row,
+    ) -> Result<(), Memory>
+        requires width { IsNarrow form.now calls.now }
+        requires calls { length self.old ≡ length calls.now }
+        ensures { OnOk result (self.new ≡ stepped form.now 0 calls.now self.old row.now) }
+    {
+        step_values(alloc, form, calls, &mut self.values, row)
+    }
 }
 
-fn add_to_values(
+/// Adds a row to the value of each call.
+fn step_values(
     alloc: Global,
     form: &Form<'_>,
     calls: &[AggCall],
@@ -49,37 +82,7 @@ fn add_to_values(
     ensures { OnOk result (values.new ≡ stepped form.now 0 calls.now values.old row.now) }
 {
     'calls: for (i, call) in calls.iter().enumerate() {
-        add_part(alloc, form, i, call, &mut values[i], row)?;
+        form.add_part(alloc, i, call, &mut values[i], row)?;
     }
     Ok(())
-}
-
-/// Adds a row.
-pub(crate) fn add(
-    alloc: Global,
-    form: &Form<'_>,
-    calls: &[AggCall],
-    tally: &mut Tally,
-    row: &Row,
-) -> Result<(), Memory>
-    requires width { IsNarrow form.now calls.now }
-    requires calls { length tally.old ≡ length calls.now }
-    ensures { OnOk result (tally.new ≡ stepped form.now 0 calls.now tally.old row.now) }
-{
-    add_to_values(alloc, form, calls, &mut tally.values, row)
-}
-
-/// The tally of one row.
-pub(crate) fn first(
-    alloc: Global,
-    form: &Form<'_>,
-    calls: &[AggCall],
-    row: &Row,
-) -> Result<Tally, Memory>
-    requires { IsNarrow form.now calls.now }
-    ensures { IfOk result (λ tally. tally ≡ stepped form.now 0 calls.now (started calls.now) row.now) }
-{
-    let mut tally = start(alloc, calls)?;
-    add(alloc, form, calls, &mut tally, row)?;
-    Ok(tally)
 }

@@ -1,7 +1,7 @@
 -- the calls that were walked have the row, and the others are to have it
 use Rattle.std.proofs.Common.{◌≡◌, ◌++◌, take, drop, length}
 use Rattle.aqe_operators.specs.Gathering.{stepped}
-use Rattle.aqe_operators.proofs.tally.add_to_values.Given as goal
+use Rattle.aqe_operators.proofs.tally.step_values.Given as goal
 
 abbrev pub invariant-calls : goal.invariant-calls
 invariant-calls l = (length l.values ≡ length l.calls)
