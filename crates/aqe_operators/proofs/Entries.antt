@@ -1,5 +1,5 @@
 -- Entries of groups, when one more row comes: for any key of a row, any start and any step.
-use Rattle.std.proofs.Common.{◌≡◌, ℕ, zero, suc, ◌+◌, ◌≤◌, Bool, true, false, not, ◌||◌, cond, List, [], ◌∷◌, ◌++◌, map, length, unwrap_or, refl, ap, sym, ◌∙◌, arith, append_assoc, rules, Some}
+use Rattle.std.proofs.Common.{◌≡◌, ℕ, zero, suc, ◌≤◌, Bool, true, false, not, ◌||◌, cond, List, [], ◌∷◌, ◌++◌, map, length, unwrap_or, refl, ap, sym, ◌∙◌, arith, append_assoc, Some}
 use Rattle.std.specs.Prelude.{filter, fold}
 use Rattle.std.specs.Map.{lookup}
 use Rattle.std.specs.List.{list_any}

@@ -1,5 +1,5 @@
 -- What is kept of rows is their groups.
-use Rattle.std.proofs.Common.{◌≡◌, ℕ, zero, ◌+◌, ◌≤◌, List, [], ◌∷◌, ◌++◌, map, length, unwrap_or, refl, ap, sym, ◌∙◌, arith, take, Bool, true, false, cond, Some, suc}
+use Rattle.std.proofs.Common.{◌≡◌, ℕ, zero, ◌+◌, ◌≤◌, List, [], ◌∷◌, ◌++◌, map, length, unwrap_or, refl, ap, ◌∙◌, arith, take, Bool, true, false, cond, Some, suc}
 use Rattle.std.specs.Prelude.{fold, All}
 use Rattle.std.specs.Map.{lookup}
 use Rattle.std.proofs.lemmas.List.{length-map, length-take}

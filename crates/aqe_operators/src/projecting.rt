@@ -1,6 +1,6 @@
 //! Rows of the values of expressions.
 
-ghost use Rattle.std.specs.Prelude.{◌≡◌, ◌∷◌, ◌++◌, ◌≤◌, [], map, length, IfOk, OnOk};
+ghost use Rattle.std.specs.Prelude.{◌≡◌, ◌++◌, ◌≤◌, map, length, IfOk, OnOk};
 ghost use Rattle.aqe_values.specs.Bounds.{row_limit};
 ghost use Rattle.aqe_logical.specs.Groups as spec;
 ghost use Rattle.aqe_operators.specs.Lent.{lent_rows};

@@ -1,6 +1,6 @@
 //! What the calls made of the rows of one group.
 
-ghost use Rattle.std.specs.Prelude.{◌≡◌, ◌∷◌, ◌++◌, [], length, IfOk, OnOk};
+ghost use Rattle.std.specs.Prelude.{◌≡◌, length, IfOk, OnOk};
 ghost use Rattle.aqe_operators.specs.Forms.{IsNarrow};
 ghost use Rattle.aqe_operators.specs.Gathering.{started, stepped};
 

@@ -1,7 +1,7 @@
 use Rattle.std.proofs.Common.{sym, subst, ap, map, ◌∙◌}
 use Rattle.std.specs.Prelude.{All}
 use Rattle.aqe_operators.specs.Lent.{lent_rows}
-use Rattle.aqe_operators.specs.Gathering.{IsWhole, flat, gathered}
+use Rattle.aqe_operators.specs.Gathering.{IsWhole, flat}
 use Rattle.aqe_operators.proofs.Gathered.{gathered_whole, whole_narrow, grouped_is}
 use Rattle.aqe_operators.proofs.aggregating.grouped.Goals as goal
 

@@ -1,4 +1,3 @@
-use Rattle.std.proofs.Common.{◌≡◌, length, ap, sym}
 use Rattle.aqe_values.specs.Equality.{row_eq}
 use Rattle.aqe_operators.proofs.Gathered.{found_whole}
 use Rattle.aqe_operators.proofs.gathering.add_row.Goals as goal
