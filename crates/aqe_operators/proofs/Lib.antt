@@ -1,0 +1,4 @@
+pub mod Taken
+pub mod Entries
+pub mod Gathered
+pub mod Columns
