@@ -1,5 +1,5 @@
 -- The order under sort keys is that of key rows under the keys' ways, and it orders.
-use Rattle.std.proofs.Common.{◌≡◌, Bool, true, false, List, [], ◌∷◌, map, refl, ap, sym, ◌∙◌}
+use Rattle.std.proofs.Common.{◌≡◌, true, false, [], ◌∷◌, refl, ap, sym, ◌∙◌}
 use Rattle.std.specs.Cmp.{IsTotalOrder}
 use Rattle.std.specs.Ordering.{ordering_then, ordering_reverse}
 use Rattle.std.specs.declared.cmp.Ordering.{Ordering}
@@ -8,12 +8,10 @@ use Rattle.aqe_values.specs.Order.{way_cmp}
 use Rattle.aqe_values.specs.KeyOrder.{key_order}
 use Rattle.aqe_values.proofs.TotalOrders.{keys_total}
 use Rattle.aqe_expr.specs.Meaning.{val}
-use Rattle.aqe_logical.specs.declared.plan.SortKey.{SortKey}
 use Rattle.aqe_logical.specs.Answers.{Row}
-use Rattle.aqe_logical.specs.Groups.{row_of}
-use Rattle.aqe_logical.specs.Order.{row_order, is_before, before}
+use Rattle.aqe_logical.specs.Order.{row_order, is_before}
 use Rattle.aqe_places.specs.Sorting.{ways_of, key_of}
-use Rattle.aqe_places.specs.Laws.{IsOrder, SortKeysCompareKeyRows, SortKeysOrder}
+use Rattle.aqe_places.specs.Laws.{SortKeysCompareKeyRows, SortKeysOrder}
 
 pub compare : SortKeysCompareKeyRows
 compare [] x y = refl
