@@ -1,5 +1,5 @@
 -- The cells of a map's output: a list of rows for each reducer.
-use Rattle.std.specs.Prelude.{◌≡◌, ℕ, ◌+◌, ◌^◌, ◌<◌, List, [], ◌∷◌, ◌++◌, length, map, sum_by, slice_index_or}
+use Rattle.std.specs.Prelude.{◌≡◌, ℕ, List, [], length, map, sum_by, slice_index_or}
 use Rattle.aqe_values.specs.declared.value.Value.{Value}
 use Rattle.aqe_values.specs.Sizes.{row_size_of}
 

@@ -85,8 +85,8 @@ fn push_row(rows: &mut Rows, row: Row) -> Result<(), Memory>
     }
 }
 
-/// A copy of the rows of a cell.
-pub(crate) fn copy_of_rows(alloc: Global, rows: &[Row]) -> Result<Rows, Memory>
+/// Rows equal to these.
+pub fn copy_of_rows(alloc: Global, rows: &[Row]) -> Result<Rows, Memory>
     ensures { IfOk result (λ copy. copy ≡ rows.now) }
 {
     let mut copied = Rows::new(alloc);

@@ -1,15 +1,19 @@
 -- Exchanges keep their rows, and place them.
 use Rattle.std.proofs.Common.{◌≡◌, ℕ, zero, suc, ◌+◌, ◌<◌, ◌≤◌, ◌==◌, Bool, true, false, cond, List, [], ◌∷◌, ◌++◌, map, length, refl, ap, sym, ◌∙◌, arith}
-use Rattle.std.specs.Prelude.{filter, flat_map, All}
+use Rattle.std.specs.Prelude.{filter, flat_map, All, ℤ, pos, negsuc, unsigned_abs}
+use Rattle.std.specs.Int.{int_rem_euclid}
+use Rattle.std.proofs.Math.Nat.{mod-lt}
 use Rattle.std.specs.List.{range_with_len}
 use Rattle.std.proofs.lemmas.Bool.Decides.{nat_tests}
 use Rattle.std.proofs.lemmas.List.Elements.{All-nil, All-cons}
 use Rattle.aqe_values.specs.Equality.{row_eq}
+use Rattle.aqe_values.specs.Murmur.{row_hash, place_seed}
 use Rattle.aqe_logical.specs.Answers.{Row}
+use Rattle.aqe_logical.specs.Groups.{row_of}
 use Rattle.aqe_logical.proofs.Rearranged.{total, total-filter, total-flat_map, times, bit, from_counts, permuted}
 use Rattle.aqe_logical.proofs.Rows.{rows_same}
 use Rattle.aqe_places.specs.Places.{part_of, exchanged}
-use Rattle.aqe_places.specs.Laws.{ExchangesKeepTheRows, ExchangesPlaceTheRows, RangePlacesAreParts, Placed}
+use Rattle.aqe_places.specs.Laws.{ExchangesKeepTheRows, ExchangesPlaceTheRows, HashPlacesAreParts, RangePlacesAreParts, Placed}
 
 flat_map_map : {X Y : Type 0} (f : X → List Y) (xs : List X) → flat_map (λ p. p) (map f xs) ≡ flat_map f xs
 flat_map_map f [] = refl
@@ -88,3 +92,10 @@ no_more p (x ∷ xs) = by (p x) (no_more p xs)
 
 pub are_parts : RangePlacesAreParts
 are_parts less bounds key n row few = omega (arith, few, no_more (λ bound. less bound (key row)) bounds)
+
+rem_below : (z : ℤ) (n : ℕ) → 1 ≤ n → unsigned_abs (int_rem_euclid z (pos n)) < n
+rem_below (pos a) n le = mod-lt a le
+rem_below (negsuc a) n le = omega (arith, le)
+
+pub are_hash_parts : HashPlacesAreParts
+are_hash_parts n keys row le = rem_below (row_hash (row_of keys row) place_seed) n le

@@ -1,5 +1,6 @@
 -- The laws of exchanges, sorts and ranges.
-use Rattle.std.specs.Prelude.{◌≡◌, ℕ, ◌<◌, ◌+◌, Bool, true, false, List, [], ◌∷◌, filter, flat_map, length, All, IsPermutation}
+use Rattle.std.specs.Prelude.{◌≡◌, ℕ, ◌<◌, ◌≤◌, ◌+◌, Bool, true, false, List, [], ◌∷◌, filter, flat_map, length, All, IsPermutation}
+use Rattle.aqe_expr.specs.declared.expr.Expr.{Expr}
 use Rattle.aqe_logical.specs.Answers.{Row}
 use Rattle.std.specs.Ordering.{ordering_then}
 use Rattle.aqe_values.specs.Order.{way_cmp}
@@ -7,7 +8,7 @@ use Rattle.aqe_values.specs.KeyOrder.{InOrder}
 use Rattle.aqe_expr.specs.Meaning.{val}
 use Rattle.aqe_logical.specs.declared.plan.SortKey.{SortKey}
 use Rattle.aqe_logical.specs.Order.{row_order, before}
-use Rattle.aqe_places.specs.Places.{by_range, exchanged}
+use Rattle.aqe_places.specs.Places.{by_hash, by_range, exchanged}
 use Rattle.aqe_places.specs.Sorting.{stable_sort}
 
 -- where each row's place is that of a part, the parts have the rows that came in
@@ -23,6 +24,10 @@ Placed place a (part ∷ parts) = All (λ row. place row ≡ a) part × Placed p
 
 abbrev pub ExchangesPlaceTheRows : Type 0
 ExchangesPlaceTheRows = (place : Row → ℕ) (n : ℕ) (rows : List Row) → Placed place 0 (exchanged place n rows)
+
+-- each place by hash is that of a part
+abbrev pub HashPlacesAreParts : Type 0
+HashPlacesAreParts = (n : ℕ) (keys : List Expr) (row : Row) → 1 ≤ n → by_hash n keys row < n
 
 -- with fewer bounds than parts, each place by range is that of a part
 abbrev pub RangePlacesAreParts : Type 0

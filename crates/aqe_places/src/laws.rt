@@ -1,6 +1,6 @@
 //! Laws of the definitions, each the contract of a function that does nothing.
 
-ghost use Rattle.aqe_places.specs.Laws.{ExchangesKeepTheRows, ExchangesPlaceTheRows, RangePlacesAreParts, SortKeysDecideInTurn, SortKeysOrder, SortsAreStable, SortsKeepTheRows, SortsOrderTheRows};
+ghost use Rattle.aqe_places.specs.Laws.{ExchangesKeepTheRows, ExchangesPlaceTheRows, HashPlacesAreParts, RangePlacesAreParts, SortKeysDecideInTurn, SortKeysOrder, SortsAreStable, SortsKeepTheRows, SortsOrderTheRows};
 
 /// The parts of an exchange have the rows that came in.
 pub fn exchanges_keep_the_rows()
@@ -10,6 +10,11 @@ pub fn exchanges_keep_the_rows()
 /// Each row stands in the part of its place, so rows of one key stand in one part.
 pub fn exchanges_place_the_rows()
     ensures { ExchangesPlaceTheRows }
+{}
+
+/// Each place by hash is that of a part.
+pub fn hash_places_are_parts()
+    ensures { HashPlacesAreParts }
 {}
 
 /// With fewer bounds than parts, each place by range is that of a part.

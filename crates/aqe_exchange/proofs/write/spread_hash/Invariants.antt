@@ -1,0 +1,7 @@
+-- the rows that were walked stand in their parts
+use Rattle.std.proofs.Common.{◌≡◌}
+use Rattle.aqe_places.specs.Places.{by_hash, exchanged}
+use Rattle.aqe_exchange.proofs.write.spread_hash.Given as goal
+
+abbrev pub invariant-rows : goal.invariant-rows
+invariant-rows l = l.parts ≡ exchanged (by_hash l.n l.keys) l.n l.yielded
