@@ -1,0 +1,4 @@
+pub mod Counted
+pub mod Later
+pub mod ReadBack
+pub mod Made
