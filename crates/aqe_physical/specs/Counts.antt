@@ -1,5 +1,5 @@
 -- How many parts a plan has, and how many of its exchanges move rows between parts.
-use Rattle.std.specs.Prelude.{ℕ, ◌+◌, ◌<◌, ◌^◌, ◌≡◌, ◌≢◌, ◌⊎◌, max, List, length, All}
+use Rattle.std.specs.Prelude.{ℕ, ◌+◌, ◌<◌, ◌^◌, ◌≡◌, ◌≢◌, ◌⊎◌, max, length, All}
 use Rattle.aqe_base.specs.declared.join_kind.Side.TheVariants.{Left, Right}
 use Rattle.aqe_physical.specs.declared.target.Target.{Target}
 use Rattle.aqe_physical.specs.declared.target.Target.TheVariants.{Hash, Range, Single, Broadcast}

@@ -1,11 +1,10 @@
 -- The plain rectangles cover.
-use Rattle.std.proofs.Common.{◌≡◌, ℕ, zero, suc, ◌+◌, ◌<◌, ◌≤◌, Bool, true, false, ◌&&◌, cond, List, [], ◌∷◌, map, refl, ap, sym, ◌∙◌, arith}
+use Rattle.std.proofs.Common.{◌≡◌, ℕ, zero, suc, ◌+◌, ◌&&◌, cond, map, ap, ◌∙◌, arith}
 use Rattle.std.specs.Prelude.{count_by, nat_lt, nat_le}
 use Rattle.std.specs.List.{range_with_len}
 use Rattle.std.proofs.lemmas.Bool.Decides.{nat_tests}
 use Rattle.std.proofs.lemmas.List.Sums.{sum_by-cons}
-use Rattle.aqe_base.specs.declared.cells.Rect.{Rect}
-use Rattle.aqe_rects.specs.Rectangles.{has_cell, times_covered, is_cell, Covers, plain_rect, plain_rects}
+use Rattle.aqe_rects.specs.Rectangles.{has_cell, is_cell, plain_rect}
 use Rattle.aqe_rects.specs.Laws.{PlainRectanglesCover}
 
 -- a rectangle of one reducer has the cells of that reducer

@@ -1,5 +1,5 @@
 -- Pairs of rectangles, one of the left side of a join and one of the right, both sides of which have the same reducers.
-use Rattle.std.specs.Prelude.{ℕ, ◌≡◌, ◌≢◌, ◌<◌, Bool, true, false, ◌&&◌, ◌||◌, IsTrue, List, map, count_by, nat_lt, nat_le, All}
+use Rattle.std.specs.Prelude.{ℕ, ◌≡◌, ◌≢◌, ◌<◌, Bool, true, false, ◌&&◌, IsTrue, List, map, count_by, nat_lt, nat_le, All}
 use Rattle.aqe_base.specs.declared.cells.Rect.{Rect}
 use Rattle.aqe_base.specs.declared.join_kind.JoinKind.{JoinKind}
 use Rattle.aqe_base.specs.declared.join_kind.JoinKind.TheVariants.{LeftOuter, RightOuter, FullOuter, LeftSemi, LeftAnti}

@@ -1,5 +1,5 @@
 -- Rectangles of the cells of a stage: each cell stands at a map and a reducer.
-use Rattle.std.specs.Prelude.{ℕ, ◌+◌, ◌≡◌, ◌≤◌, Bool, ◌&&◌, cond, List, map, count_by, nat_lt, nat_le, All}
+use Rattle.std.specs.Prelude.{ℕ, ◌+◌, ◌≡◌, ◌≤◌, Bool, ◌&&◌, cond, List, map, count_by, nat_lt, nat_le}
 use Rattle.std.specs.List.{range_with_len}
 use Rattle.aqe_base.specs.declared.cells.Rect.{Rect}
 

@@ -1,12 +1,11 @@
 -- A plan has as many parts as are counted.
-use Rattle.std.proofs.Common.{◌≡◌, ℕ, suc, ◌+◌, List, [], ◌∷◌, ◌++◌, map, length, filter, take, drop, refl, ap, sym, ◌∙◌, length-append}
+use Rattle.std.proofs.Common.{◌≡◌, suc, ◌+◌, List, [], ◌∷◌, map, length, filter, take, drop, refl, ap, ◌∙◌, length-append}
 use Rattle.std.specs.Prelude.{max}
-use Rattle.std.specs.List.{range_with_len}
 use Rattle.std.proofs.lemmas.List.{length-map, length-replicate}
 use Rattle.std.proofs.lemmas.List.FromFn.{length-map-range_with_len}
 use Rattle.aqe_base.specs.declared.join_kind.Side.TheVariants.{Left, Right}
 use Rattle.aqe_expr.specs.Meaning.{holds}
-use Rattle.aqe_logical.specs.Answers.{Row, Tables, at_most_rows}
+use Rattle.aqe_logical.specs.Answers.{Row, at_most_rows}
 use Rattle.aqe_logical.specs.Groups.{row_of, finish_rows}
 use Rattle.aqe_logical.specs.Order.{before}
 use Rattle.aqe_places.specs.Places.{part_of}
@@ -16,9 +15,9 @@ use Rattle.aqe_physical.specs.declared.target.Target.{Target}
 use Rattle.aqe_physical.specs.declared.target.Target.TheVariants.{Hash, Range, Single, Broadcast}
 use Rattle.aqe_physical.specs.declared.target.JoinWay.{JoinWay}
 use Rattle.aqe_physical.specs.declared.target.JoinWay.TheVariants as way
-use Rattle.aqe_physical.specs.declared.plan.Plan.{Plan, OneRow, Scan, Nothing, Read, ReadBroadcast}
+use Rattle.aqe_physical.specs.declared.plan.Plan.{OneRow, Scan, Nothing, Read, ReadBroadcast}
 use Rattle.aqe_physical.specs.Shapes.{kept, mapped, moved, matched, grouped, finished, ordered, cut_locally, cut_globally, both_of}
-use Rattle.aqe_physical.specs.Counts.{part_count, target_count, join_count}
+use Rattle.aqe_physical.specs.Counts.{target_count, join_count}
 use Rattle.aqe_stages.specs.Stages.{Given, output_of}
 use Rattle.aqe_stages.specs.Cells.{rect_rows}
 use Rattle.aqe_stages.specs.Places.{place, exchanged_parts}

@@ -1,7 +1,7 @@
 -- What stages hold does not change when others are made later.
-use Rattle.std.proofs.Common.{◌≡◌, ℕ, ◌+◌, ◌<◌, ◌≤◌, List, [], ◌∷◌, ◌++◌, map, length, filter, take, drop, Option, Some, None, refl, ap, sym, ◌∙◌, subst, arith, append_assoc, append-nil, length-append}
-use Rattle.std.specs.Prelude.{fold, All}
-use Rattle.std.proofs.lemmas.List.{get_or_append_left, get_or_push}
+use Rattle.std.proofs.Common.{◌≡◌, ℕ, ◌+◌, ◌<◌, List, [], ◌∷◌, ◌++◌, map, length, filter, take, drop, Option, Some, None, refl, ap, sym, ◌∙◌, arith, append_assoc, append-nil, length-append}
+use Rattle.std.specs.Prelude.{fold}
+use Rattle.std.proofs.lemmas.List.{get_or_append_left}
 use Rattle.std.proofs.lemmas.List.Sums.{fold-append}
 use Rattle.aqe_base.specs.declared.stage_id.StageId.{StageId}
 use Rattle.aqe_expr.specs.Meaning.{holds}
@@ -17,13 +17,12 @@ use Rattle.aqe_physical.specs.declared.target.Target.{Target}
 use Rattle.aqe_physical.specs.declared.target.Target.TheVariants.{Hash, Range, Single, Broadcast}
 use Rattle.aqe_physical.specs.declared.plan.Plan.{Plan, OneRow, Scan, Nothing, Read, ReadBroadcast}
 use Rattle.aqe_physical.specs.Shapes.{kept, mapped, moved, matched, grouped, finished, ordered, cut_locally, cut_globally, both_of}
-use Rattle.aqe_physical.specs.Counts.{target_count}
 use Rattle.aqe_physical.proofs.Nodes.{Each, each}
 use Rattle.aqe_stages.specs.Stages.{Stage, Stages, Given, Output, output_of}
 use Rattle.aqe_stages.specs.Cells.{rect_rows, all_rows}
 use Rattle.aqe_stages.specs.Places.{place, key_less, samples, exchanged_parts}
-use Rattle.aqe_stages.specs.Parts.{parts, output, given_by, cells, joined_sides, join_rows}
-use Rattle.aqe_stages.specs.Reads.{SampleBelow, ReadsBelowAt, ReadsBelow}
+use Rattle.aqe_stages.specs.Parts.{parts, output, given_by, joined_sides, join_rows}
+use Rattle.aqe_stages.specs.Reads.{SampleBelow, ReadsBelowAt}
 use Rattle.aqe_stages.specs.Laws.{LaterStagesKeepCells, LaterStagesKeepParts}
 
 -- what stages hold, with one stage more

@@ -2,3 +2,4 @@ pub mod Counted
 pub mod Later
 pub mod ReadBack
 pub mod Made
+pub mod KnownAnswers

@@ -1,5 +1,5 @@
 -- The plan after a stage was made has the parts of the plan before it.
-use Rattle.std.proofs.Common.{◌≡◌, ℕ, ◌+◌, ◌<◌, ◌≤◌, List, [], ◌∷◌, ◌++◌, map, length, filter, take, drop, Option, Some, None, refl, ap, sym, ◌∙◌, subst, arith, length-append}
+use Rattle.std.proofs.Common.{◌≡◌, ℕ, ◌<◌, ◌≤◌, List, [], ◌∷◌, ◌++◌, map, length, filter, take, drop, Some, None, refl, ap, sym, ◌∙◌, subst, arith, length-append}
 use Rattle.std.proofs.lemmas.List.{get_or_push}
 use Rattle.aqe_base.specs.declared.stage_id.StageId.{StageId}
 use Rattle.aqe_expr.specs.Meaning.{holds}
@@ -18,15 +18,15 @@ use Rattle.aqe_physical.specs.declared.plan.Plan.{Plan, OneRow, Scan, Nothing, R
 use Rattle.aqe_physical.specs.Shapes.{kept, mapped, moved, matched, grouped, finished, ordered, cut_locally, cut_globally, both_of}
 use Rattle.aqe_physical.specs.Counts.{part_count, target_count}
 use Rattle.aqe_physical.proofs.Nodes.{Each, each, each_weaker, all_nodes}
-use Rattle.aqe_stages.specs.Stages.{Stage, Stages, Given, Output, output_of}
+use Rattle.aqe_stages.specs.Stages.{Stage, Given, Output, output_of}
 use Rattle.aqe_stages.specs.Cells.{rect_rows, all_rows}
 use Rattle.aqe_stages.specs.Places.{place, key_less, sample_of, samples, exchanged_parts}
 use Rattle.aqe_stages.specs.Parts.{parts, output, given_by, joined_sides, join_rows}
-use Rattle.aqe_stages.specs.Reads.{SampleBelow, ReadsBelowAt, ReadsBelow}
+use Rattle.aqe_stages.specs.Reads.{SampleBelow, ReadsBelowAt}
 use Rattle.aqe_stages.specs.Making.{Made, shuffled, broadcasted, sampled, in_kept, in_mapped, in_moved, in_left, in_right, in_grouped, in_finished, in_ordered, in_cut_locally, in_cut_globally, in_first, in_second, shuffle, broadcast, sampling, plain_read, IsShuffle}
 use Rattle.aqe_stages.specs.Laws.{MadeStagesKeepParts, MadeStagesReadBelow}
 use Rattle.aqe_stages.proofs.Counted.{counted}
-use Rattle.aqe_stages.proofs.Later.{with_stage, given_count, given_one_more, SameBelow, same_in_front, exchanged_same, parts_same}
+use Rattle.aqe_stages.proofs.Later.{with_stage, given_count, given_one_more, same_in_front, exchanged_same, parts_same}
 use Rattle.aqe_stages.proofs.ReadBack.{read_back, all_kept}
 
 -- the new stage holds what it makes over those before it
@@ -59,7 +59,7 @@ sampled_ranges : (tables : Tables) (given : Given) (number : StageId) (keys : Li
     parts tables (with_stage tables given (sampling keys child)) (moved (Range keys n (Some number)) child) ≡ parts tables given (moved (Range keys n None) child)
 sampled_ranges tables given number keys n child e same =
     let held : all_rows (output_of (with_stage tables given (sampling keys child)) number.0) ≡ samples given keys None (parts tables given child) =
-        ap all_rows (newest tables given number (sampling keys child) e) ∙ all_kept (sample_of keys) (parts tables given child) in
+    ap all_rows (newest tables given number (sampling keys child) e) ∙ all_kept (sample_of keys) (parts tables given child) in
     (λ i. exchanged (by_range (key_less keys) (bounds (key_less keys) n (held i)) (key_of keys)) n (joined_parts (same i)))
 
 abbrev Below : Given → Plan → Type 0

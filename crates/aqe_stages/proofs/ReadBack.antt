@@ -1,6 +1,6 @@
 -- The plain read of the cells that are made of parts is the exchange of these parts.
 use Rattle.std.proofs.Common.{◌≡◌, ℕ, zero, suc, ◌+◌, ◌-◌, ◌<◌, ◌≤◌, List, [], ◌∷◌, ◌++◌, map, length, get_or, refl, ap, sym, ◌∙◌, arith, append_assoc, append-nil, length-append}
-use Rattle.std.specs.Prelude.{filter, flat_map, ◌==◌}
+use Rattle.std.specs.Prelude.{flat_map, ◌==◌}
 use Rattle.std.specs.List.{range_with_len}
 use Rattle.std.proofs.Math.Seq.{get_or-append_seam}
 use Rattle.std.proofs.lemmas.List.{length-map}
@@ -10,8 +10,7 @@ use Rattle.aqe_places.specs.Places.{part_of, exchanged}
 use Rattle.aqe_partial.specs.PartialRows.{joined_parts}
 use Rattle.aqe_partial.proofs.Lists.{filter_flat_map}
 use Rattle.aqe_rects.specs.Rectangles.{plain_rect, plain_rects}
-use Rattle.aqe_stages.specs.Stages.{Output}
-use Rattle.aqe_stages.specs.Cells.{cell, numbers, rect_rows, all_rows}
+use Rattle.aqe_stages.specs.Cells.{cell, rect_rows, all_rows}
 
 -- a list taken by its places, behind others
 by_places : {X Y : Type 0} (g : X → List Y) (d : X) (front xs : List X) (a : ℕ) → length front ≡ a →

@@ -1,11 +1,11 @@
 -- The laws of what plans give.
-use Rattle.std.specs.Prelude.{ℕ, ◌≡◌, ◌<◌, List, [], ◌∷◌, ◌++◌, length, All}
+use Rattle.std.specs.Prelude.{ℕ, ◌≡◌, ◌<◌, [], ◌∷◌, ◌++◌, length}
 use Rattle.aqe_base.specs.declared.stage_id.StageId.{StageId}
 use Rattle.aqe_logical.specs.Answers.{Tables}
 use Rattle.aqe_physical.specs.declared.plan.Plan.{Plan}
 use Rattle.aqe_physical.specs.Counts.{part_count}
 use Rattle.aqe_stages.specs.Stages.{Stage, Stages, Given}
-use Rattle.aqe_stages.specs.Parts.{parts, given_by, cells, out}
+use Rattle.aqe_stages.specs.Parts.{parts, given_by, cells}
 use Rattle.aqe_stages.specs.Reads.{ReadsBelow}
 use Rattle.aqe_stages.specs.Making.{Made}
 

@@ -1,5 +1,5 @@
 -- The parts of a plan.
-use Rattle.std.specs.Prelude.{ℕ, max, Option, List, [], ◌∷◌, ◌++◌, map, filter, fold, take, drop, replicate, length, slice_index_or}
+use Rattle.std.specs.Prelude.{ℕ, max, List, [], ◌∷◌, ◌++◌, map, filter, fold, take, drop, replicate, length, slice_index_or}
 use Rattle.std.specs.List.{range_with_len}
 use Rattle.aqe_base.specs.declared.join_kind.JoinKind.{JoinKind}
 use Rattle.aqe_base.specs.declared.join_kind.Side.TheVariants.{Left, Right}

@@ -1,21 +1,19 @@
 -- What a part of a plan is computed from.
-use Rattle.std.specs.Prelude.{ℕ, zero, suc, ◌≡◌, ◌<◌, ◌-◌, ◌≤◌, nat_lt, cond, Option, Some, None, List, [], ◌∷◌, ◌++◌, flat_map, slice_index_or, All}
+use Rattle.std.specs.Prelude.{ℕ, zero, suc, ◌<◌, ◌-◌, nat_lt, cond, Some, List, [], ◌∷◌, ◌++◌, flat_map, All}
 use Rattle.std.specs.List.{range_with_len}
 use Rattle.aqe_base.specs.declared.stage_id.StageId.{StageId}
 use Rattle.aqe_base.specs.declared.cells.Rect.{Rect}
 use Rattle.aqe_base.specs.declared.join_kind.Side.TheVariants.{Left, Right}
-use Rattle.aqe_logical.specs.Answers.{Row}
 use Rattle.aqe_physical.specs.declared.target.Target.{Target}
 use Rattle.aqe_physical.specs.declared.target.Target.TheVariants.{Range}
 use Rattle.aqe_physical.specs.declared.target.StageKind.{StageKind}
 use Rattle.aqe_physical.specs.declared.target.StageKind.TheVariants as kind
 use Rattle.aqe_physical.specs.declared.target.JoinWay.{JoinWay}
 use Rattle.aqe_physical.specs.declared.target.JoinWay.TheVariants as way
-use Rattle.aqe_physical.specs.declared.plan.Plan.{Plan, OneRow, Scan, Nothing, Read, ReadBroadcast}
+use Rattle.aqe_physical.specs.declared.plan.Plan.{Plan, Read, ReadBroadcast}
 use Rattle.aqe_physical.specs.Shapes.{kept, mapped, moved, matched, grouped, finished, ordered, cut_locally, cut_globally, both_of}
 use Rattle.aqe_physical.specs.Nodes.{nodes}
 use Rattle.aqe_physical.specs.Counts.{part_count}
-use Rattle.aqe_stages.specs.Stages.{Given, output_of}
 
 -- a task needs some maps of a stage, from one up to another, or all of them
 pub data Need : Type 0 where

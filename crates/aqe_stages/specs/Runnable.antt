@@ -2,31 +2,26 @@
 use Rattle.std.specs.Prelude.{ℕ, zero, suc, ◌≡◌, ◌≤◌, ◌<◌, ◌+◌, IsTrue, Option, Some, None, List, [], ◌∷◌, length, slice_index_or, All}
 use Rattle.aqe_base.specs.declared.stage_id.StageId.{StageId}
 use Rattle.aqe_base.specs.declared.join_kind.JoinKind.{JoinKind}
-use Rattle.aqe_base.specs.declared.join_kind.Side.{Side}
 use Rattle.aqe_base.specs.declared.join_kind.Side.TheVariants.{Left, Right}
 use Rattle.aqe_base.specs.Joins.{may_build}
 use Rattle.aqe_values.specs.Bounds.{row_limit}
-use Rattle.aqe_expr.specs.declared.expr.Expr.{Expr}
 use Rattle.aqe_logical.specs.declared.plan.SortKey.{SortKey}
 use Rattle.aqe_logical.specs.Answers.{Row, Tables}
 use Rattle.aqe_logical.specs.Groups.{row_of}
 use Rattle.aqe_logical.specs.WellFormed.{HaveWidth}
 use Rattle.aqe_places.specs.Sorting.{key_of}
-use Rattle.aqe_partial.specs.PartialRows.{joined_parts}
-use Rattle.aqe_join_rows.specs.declared.join_keys.JoinKeys.{JoinKeys}
 use Rattle.aqe_rects.specs.Rectangles.{LiesWithin}
-use Rattle.aqe_physical.specs.declared.target.Target.{Target}
 use Rattle.aqe_physical.specs.declared.target.Target.TheVariants.{Hash, Range}
 use Rattle.aqe_physical.specs.declared.target.StageKind.{StageKind}
 use Rattle.aqe_physical.specs.declared.target.StageKind.TheVariants as kind
 use Rattle.aqe_physical.specs.declared.target.JoinWay.{JoinWay}
 use Rattle.aqe_physical.specs.declared.target.JoinWay.TheVariants as way
-use Rattle.aqe_physical.specs.declared.plan.Plan.{Plan, OneRow, Scan, Nothing, Read, ReadBroadcast}
-use Rattle.aqe_physical.specs.Shapes.{kept, mapped, moved, matched, grouped, finished, ordered, cut_locally, cut_globally, both_of}
+use Rattle.aqe_physical.specs.declared.plan.Plan.{Plan, Scan, Read, ReadBroadcast}
+use Rattle.aqe_physical.specs.Shapes.{moved, matched, grouped, finished, ordered}
 use Rattle.aqe_physical.specs.Nodes.{nodes}
 use Rattle.aqe_physical.specs.Counts.{part_count, target_count}
-use Rattle.aqe_stages.specs.Stages.{Stage, Stages, output_of}
-use Rattle.aqe_stages.specs.Parts.{given_by, all}
+use Rattle.aqe_stages.specs.Stages.{Stage, Stages}
+use Rattle.aqe_stages.specs.Parts.{all}
 
 -- what holds of the stage of a number; where there is no such stage, nothing does
 abbrev pub OfStage : Stages → ℕ → (Stage → Type 0) → Type 0

@@ -1,4 +1,4 @@
-use Rattle.std.proofs.Common.{rules, inl, inr, ap, ◌∙◌, sym, arith, ◌<◌, ◌≡◌, length}
+use Rattle.std.proofs.Common.{rules, inl, inr, ap, arith, ◌≡◌, length}
 use Rattle.aqe_physical.specs.Counts.{part_count}
 use Rattle.aqe_physical.specs.declared.plan.Plan.{the_lemmas}
 use Rattle.aqe_physical.proofs.Counted.{fit_steps, own_fits, count-union, fits-filter, fits-project, fits-partialagg, fits-finalagg, fits-sort, fits-locallimit, fits-globallimit}
