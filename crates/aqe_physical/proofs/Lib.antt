@@ -1,0 +1,4 @@
+pub mod Shapes
+pub mod Walk
+pub mod Nodes
+pub mod Counted

@@ -1,0 +1,4 @@
+pub mod Shapes
+pub mod Forms
+pub mod Nodes
+pub mod Counts

@@ -1,0 +1,3 @@
+pub mod Rectangles
+pub mod Pairs
+pub mod Laws

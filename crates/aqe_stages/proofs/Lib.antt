@@ -1,0 +1,5 @@
+pub mod Counted
+pub mod Later
+pub mod ReadBack
+pub mod Made
+pub mod KnownAnswers

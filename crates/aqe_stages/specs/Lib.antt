@@ -1,0 +1,10 @@
+pub mod Stages
+pub mod Cells
+pub mod Places
+pub mod Parts
+pub mod Reads
+pub mod Runnable
+pub mod Sizes
+pub mod Stands
+pub mod Making
+pub mod Laws
