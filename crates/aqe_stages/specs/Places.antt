@@ -1,12 +1,12 @@
 -- Where an exchange places each row of its child's parts, and what a stage keeps of a part.
 use Rattle.std.specs.Prelude.{ℕ, Bool, Option, Some, None, List, [], ◌∷◌, map, flat_map}
+use Rattle.std.specs.Ordering.{is_lt}
 use Rattle.aqe_base.specs.declared.stage_id.StageId.{StageId}
 use Rattle.aqe_values.specs.KeyOrder.{key_order}
 use Rattle.aqe_logical.specs.declared.plan.SortKey.{SortKey}
 use Rattle.aqe_logical.specs.Answers.{Row}
-use Rattle.aqe_logical.specs.Order.{is_before}
+use Rattle.aqe_logical.specs.Order.{ways_of, key_of}
 use Rattle.aqe_places.specs.Places.{by_hash, by_range, single, exchanged}
-use Rattle.aqe_places.specs.Sorting.{ways_of, key_of}
 use Rattle.aqe_places.specs.Samples.{sample, bounds}
 use Rattle.aqe_partial.specs.PartialRows.{joined_parts}
 use Rattle.aqe_physical.specs.declared.target.Target.{Target}
@@ -19,7 +19,7 @@ use Rattle.aqe_stages.specs.Cells.{all_rows}
 
 -- whether a key row comes strictly before another under the ways of sort keys
 abbrev pub key_less : List SortKey → Row → Row → Bool
-key_less keys a b = is_before (key_order (ways_of keys) a b)
+key_less keys a b = is_lt (key_order (ways_of keys) a b)
 
 -- a sample of the keys of a part
 abbrev pub sample_of : List SortKey → List Row → List Row

@@ -9,7 +9,7 @@ use Rattle.aqe_logical.specs.declared.plan.SortKey.{SortKey}
 use Rattle.aqe_logical.specs.Answers.{Row, Tables}
 use Rattle.aqe_logical.specs.Groups.{row_of}
 use Rattle.aqe_logical.specs.WellFormed.{HaveWidth}
-use Rattle.aqe_places.specs.Sorting.{key_of}
+use Rattle.aqe_logical.specs.Order.{key_of}
 use Rattle.aqe_rects.specs.Rectangles.{LiesWithin}
 use Rattle.aqe_physical.specs.declared.target.Target.TheVariants.{Hash, Range}
 use Rattle.aqe_physical.specs.declared.target.StageKind.{StageKind}
