@@ -6,3 +6,4 @@ pub mod FolderFacts
 pub mod LoadFacts
 pub mod LoadedFacts
 pub mod CauseFacts
+pub mod IndexFacts

@@ -3,6 +3,7 @@ pub mod FileRows
 pub mod Records
 pub mod Options
 pub mod Widths
+pub mod Index
 pub mod Catalog
 pub mod Folder
 pub mod Load
