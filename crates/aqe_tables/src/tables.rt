@@ -6,7 +6,7 @@ ghost use Rattle.aqe_store.specs.Told.{WhereTold};
 ghost use Rattle.aqe_tables.specs.Load.{HasNoCause, HasNoOtherCause, IsShaped, IsTableOf, LoadCause};
 ghost use Rattle.aqe_tables.specs.declared.fault.LoadFault.TheVariants as fault;
 ghost use Rattle.aqe_tables.specs.Loaded.{AreSmall, IsLoaded, Loads, Pads, WhereLoaded, all_bytes, table_at};
-ghost use Rattle.aqe_tables.specs.Steps.{IsStep};
+ghost use Rattle.aqe_tables.specs.Steps.{IsStoreStep};
 
 use crate::catalog::Catalog;
 use crate::fault::LoadFault;
@@ -157,8 +157,7 @@ impl Tables {
         ensures refused { IfErr result (λ why. WhereTold (S.files store.old)
             (λ files. IfSome (slice_get catalog.now table)
             (λ form. LoadCause files form (all_bytes self.old) why))) }
-        ensures step { IsStep fault.ReadFault fault.Missing (S.files store.old) (S.files store.new) (S.faults store.old)
-            (S.faults store.new) (S.misses store.old) (S.misses store.new) result }
+        ensures step { IsStoreStep fault.ReadFault fault.Missing S.files S.faults S.misses store.old store.new result }
         ensures kept { OnErr result (self.new ≡ self.old) }
 
         // Where a cause holds, its refusal comes, unless a failure or want of memory came first.
