@@ -7,3 +7,4 @@ pub mod LoadFacts
 pub mod LoadedFacts
 pub mod CauseFacts
 pub mod IndexFacts
+pub mod ShapeFacts

@@ -1,7 +1,8 @@
 -- The loaded tables, by number.
-use Rattle.std.specs.Prelude.{◌≡◌, ◌≢◌, ◌≤◌, ◌++◌, ℕ, List, length, replicate, slice_get, slice_index_or, Option, None, Some, IsSome, IfSome, All, sum_by}
+use Rattle.std.specs.Prelude.{◌≡◌, ◌≢◌, ◌≤◌, ◌++◌, ℕ, List, length, replicate, slice_get, slice_index_or, Option, None, Some, IsSome, IfSome, IsSomeAnd, All, sum_by}
 use Rattle.aqe_tables.specs.declared.catalog.CatalogTable.{CatalogTable}
 use Rattle.aqe_tables.specs.declared.loaded.Table.{Table}
+use Rattle.aqe_tables.specs.Load.{IsShaped}
 
 -- each slot has the loaded table of its number, or none
 abbrev pub Slots : Type 0
@@ -30,6 +31,12 @@ all_bytes slots = sum_by slot_bytes slots
 pub record Loads (old new : Slots) (n : ℕ) (table : Table) : Type 0 where
   pub is : table_at new n ≡ Some table
   pub others : (m : ℕ) → m ≢ n → table_at new m ≡ table_at old m
+
+-- Each loaded table was created, and has the shape of its schema: 1 to 1,000 files, and in each row a value for each
+-- column.
+abbrev pub AreShaped : List CatalogTable → Slots → Type 0
+AreShaped catalog slots = (n : ℕ) → IfSome (table_at slots n)
+    (λ loaded. IsSomeAnd (slice_get catalog n) (λ table. IsShaped (length table.form.schema) loaded))
 
 -- no loaded table has more than 1,000 files
 abbrev pub AreSmall : Slots → Type 0

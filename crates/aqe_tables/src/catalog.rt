@@ -5,6 +5,7 @@ ghost use Rattle.std.specs.List.{find as find_in};
 ghost use Rattle.std.specs.Option.{option_map};
 ghost use Rattle.aqe_tables.specs.Catalog.{catalog_table, column_limit, create_fault, find_table};
 ghost use Rattle.aqe_tables.specs.Index.{is_named};
+ghost use Rattle.aqe_tables.specs.Loaded.{AreShaped, Slots};
 ghost use Rattle.aqe_tables.specs.declared.catalog.CreateFault.TheVariants as fault;
 
 use crate::columns::{copy_columns, repeated_name};
@@ -194,6 +195,8 @@ impl Catalog {
         ensures failed { IfErr result (λ e. (e ≡ fault.Memory)
             ⊎ (create_fault self.old form.now ≡ Some e)) }
         ensures kept { OnErr result (self.new ≡ self.old) }
+        // Loaded tables keep their shapes, since the numbers of earlier tables stay.
+        ensures shapes { (slots : Slots) → AreShaped self.old slots → AreShaped self.new slots }
     {
         self.check(form)?;
         let table = table_of(self.alloc, form)?;

@@ -1,11 +1,12 @@
 //! The tables that were loaded, by number.
 
-ghost use Rattle.std.specs.Prelude.{◌≡◌, ◌≢◌, ◌≤◌, ◌<◌, ◌+◌, ◌^◌, ℕ, [], None, Some, length, slice_get, vec_len, IsOk, IsSome, IfOk, IfErr, IfSome, OnOk, OnErr};
+ghost use Rattle.std.specs.Prelude.{◌≡◌, ◌≢◌, ◌≤◌, ◌<◌, ◌+◌, ◌^◌, ℕ, List, [], None, Some, length, slice_get, vec_len, IsOk, IsSome, IfOk, IfErr, IfSome, OnOk, OnErr};
 ghost use Rattle.std.specs.Option.{is_some, IsSomeAnd};
 ghost use Rattle.aqe_store.specs.Told.{WhereTold};
 ghost use Rattle.aqe_tables.specs.Load.{HasNoCause, HasNoOtherCause, IsShaped, IsTableOf, LoadCause};
+ghost use Rattle.aqe_tables.specs.declared.catalog.CatalogTable.{CatalogTable as TableData};
 ghost use Rattle.aqe_tables.specs.declared.fault.LoadFault.TheVariants as fault;
-ghost use Rattle.aqe_tables.specs.Loaded.{AreSmall, IsLoaded, Loads, Pads, WhereLoaded, all_bytes, table_at};
+ghost use Rattle.aqe_tables.specs.Loaded.{AreShaped, AreSmall, IsLoaded, Loads, Pads, WhereLoaded, all_bytes, table_at};
 ghost use Rattle.aqe_tables.specs.Steps.{IsStoreStep};
 
 use crate::catalog::Catalog;
@@ -73,7 +74,8 @@ fn put(slots: &mut Vec<Option<Table>>, table: u32, loaded: Table) -> Result<(), 
 impl Tables {
     /// No table is loaded. It takes no memory until the first `load`.
     pub fn new(alloc: Global) -> Tables
-        ensures { result ≡ [] }
+        ensures none { result ≡ [] }
+        ensures shapes { (catalog : List TableData) → AreShaped catalog result }
     {
         Tables {
             alloc,
@@ -151,6 +153,7 @@ impl Tables {
         ensures shaped { OnOk result (table_at self.old table ≡ None
             → WhereLoaded catalog.now self.new table
             (λ form loaded. IsShaped (length form.form.schema) loaded)) }
+        ensures shapes { AreShaped catalog.now self.old → AreShaped catalog.now self.new }
         ensures others { (n : ℕ) → n ≢ table → table_at self.new n ≡ table_at self.old n }
 
         // Each refusal has its cause in the files, or shows in a count of the store.
