@@ -5,6 +5,7 @@ use Rattle.aqe_store.specs.Files.{Entries, content_of}
 use Rattle.aqe_tables.specs.declared.catalog.CatalogTable.{CatalogTable}
 use Rattle.aqe_tables.specs.declared.fault.LoadFault.{LoadFault}
 use Rattle.aqe_tables.specs.declared.load.LoadedFile.{LoadedFile}
+use Rattle.aqe_tables.specs.declared.loaded.Table.{Table}
 use Rattle.aqe_tables.specs.FileRows.{file_rows}
 use Rattle.aqe_tables.specs.Folder.{AreHeld, DataFile, bytes_of, names_of, path_of}
 use Rattle.aqe_tables.specs.Load.{AreGood, FileCause, IsGood, LoadCause, StopsAt, is_excuse}
@@ -52,6 +53,11 @@ pub record AreRead (table : CatalogTable) (before : ℕ) (parts : List DataFile)
 abbrev pub ReadUpTo : Entries → CatalogTable → List (List ℕ) → ℕ → ℕ → List (List (List Value)) → ℕ → Type 0
 ReadUpTo files table names before n rows total =
     (parts : List DataFile) → HaveNames files table.location names parts → AreRead table before parts n rows total
+
+-- all files of these names were read
+abbrev pub AreAllRead : Entries → CatalogTable → List (List ℕ) → ℕ → Table → Type 0
+AreAllRead files table names before read =
+    ReadUpTo files table names before (length names) read.files (before + read.bytes)
 
 -- the files of these names were not all read, whatever files they are
 abbrev pub NotAllRead : Entries → CatalogTable → List (List ℕ) → ℕ → LoadFault → Type 0

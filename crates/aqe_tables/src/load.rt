@@ -9,7 +9,7 @@ ghost use Rattle.aqe_store.specs.Told.{WhereTold};
 ghost use Rattle.aqe_tables.specs.Catalog.{column_limit};
 ghost use Rattle.aqe_tables.specs.FileRows.{file_rows};
 ghost use Rattle.aqe_tables.specs.Load.{AreWide, FileCause, IsGood, IsShaped, IsTableOf, IsUnread, LoadCause, bytes_limit, files_limit, is_plain as is_plain_byte, or_one_empty as or_one_empty_file};
-ghost use Rattle.aqe_tables.specs.Reading.{IsRead, NotAllRead, NotHad, NotRead, ReadUpTo};
+ghost use Rattle.aqe_tables.specs.Reading.{AreAllRead, IsRead, NotAllRead, NotHad, NotRead};
 ghost use Rattle.aqe_tables.specs.Steps.{IsStoreStep};
 ghost use Rattle.aqe_tables.specs.declared.fault.LoadFault.TheVariants as fault;
 ghost use Rattle.aqe_tables.specs.declared.records.FileFail.TheVariants as fail;
@@ -155,8 +155,8 @@ fn read_files<S: Store>(
 ) -> Result<Table, LoadFault>
     requires narrow { length table.now.form.schema ≤ column_limit }
     requires room { before ≤ bytes_limit }
-    ensures read { IfOk result (λ read. WhereTold (S.files store.old) (λ files. ReadUpTo files
-        table.now names.now before (length names.now) read.files (before + read.bytes))) }
+    ensures read { IfOk result (λ read. WhereTold (S.files store.old)
+        (λ files. AreAllRead files table.now names.now before read)) }
     ensures count { IfOk result (λ read. length read.files ≡ length names.now) }
     ensures wide { IfOk result (λ read. All (AreWide (length table.now.form.schema)) read.files) }
     ensures room { IfOk result (λ read. before + read.bytes ≤ bytes_limit) }
