@@ -18,11 +18,12 @@ use Rattle.std.proofs.lemmas.Map.Text.{is_eq-slice_cmp}
 use Rattle.std.proofs.lemmas.Slice.Eq.{bytes_eq-Decides}
 use Rattle.aqe_store.specs.Files.{Entries, IsHeld, IsListing, content_of}
 use Rattle.aqe_store.specs.Told.{WhereTold}
+use Rattle.aqe_tables.specs.declared.catalog.CatalogTable.{CatalogTable}
 use Rattle.aqe_tables.specs.declared.fault.LoadFault.{LoadFault}
 use Rattle.aqe_tables.specs.declared.fault.LoadFault.TheVariants as fault
 use Rattle.aqe_tables.specs.Folder.{AreDataNames, DataFile, IsBefore, IsDataFile, is_data_name, names_of, path_of}
 use Rattle.aqe_tables.specs.Load.{files_limit}
-use Rattle.aqe_tables.specs.Steps.{FolderCause, HaveNames}
+use Rattle.aqe_tables.specs.Reading.{HaveNames, NotListed}
 
 here : (x : List ℕ) (xs : List (List ℕ)) → Contains (x ∷ xs) x
 here x xs = (0, omega arith, refl)
@@ -108,11 +109,12 @@ pub sorted_told : (told : Option Entries) (folder : List ℕ) (names sorted : Li
 sorted_told None folder names sorted h same up = tt
 sorted_told (Some files) folder names sorted h same up = sorted_names files folder names sorted h same up
 
-pub many_told : (told : Option Entries) (folder : List ℕ) (names sorted : List (List ℕ)) (why : LoadFault) → WhereTold told (λ files. IsListing files folder names)
+pub many_told : (told : Option Entries) (table : CatalogTable) (names sorted : List (List ℕ)) (why : LoadFault) → WhereTold told (λ files. IsListing files table.location names)
     → IsPermutation (filter is_data_name names) sorted → IsSorted (slice_cmp nat_cmp) sorted → files_limit < length sorted → why ≡ fault.TooManyFiles
-    → WhereTold told (λ files. FolderCause files folder why)
-many_told None folder names sorted why h same up more is = tt
-many_told (Some files) folder names sorted why h same up more is = rw is (sorted, sorted_names files folder names sorted h same up, more)
+    → WhereTold told (λ files. NotListed files table why)
+many_told None table names sorted why h same up more is = tt
+many_told (Some files) table names sorted why h same up more is =
+    rw is (λ before. (sorted, sorted_names files table.location names sorted h same up, more))
 
 -- names that are held have contents
 pub contents : (files : Entries) (folder : List ℕ) (names : List (List ℕ)) → ((name : List ℕ) → Contains names name → IsHeld files (path_of folder name))

@@ -6,3 +6,5 @@ pub mod FolderFacts
 pub mod LoadFacts
 pub mod LoadedFacts
 pub mod CauseFacts
+pub mod IndexFacts
+pub mod ShapeFacts

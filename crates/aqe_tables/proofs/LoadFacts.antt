@@ -1,5 +1,5 @@
 -- Files read one after the other.
-use Rattle.std.proofs.Common.{◌≡◌, ℕ, zero, suc, ◌+◌, ◌<◌, ◌≤◌, List, [], ◌∷◌, ◌++◌, length, take, drop, get_or, refl, ap, sym, arith, ◌∙◌, Option, Some, None, drop-cons, zero-add}
+use Rattle.std.proofs.Common.{◌≡◌, ℕ, zero, suc, ◌+◌, ◌<◌, ◌≤◌, List, [], ◌∷◌, ◌++◌, length, take, drop, get_or, refl, ap, sym, arith, ◌∙◌, Bool, true, false, Option, Some, None, drop-cons, zero-add}
 use Rattle.std.specs.Prelude.{All, map}
 use Rattle.std.proofs.Common.{subst}
 use Rattle.std.proofs.lemmas.List.Sums.{sum_by-append, sum_by-cons}
@@ -15,8 +15,8 @@ use Rattle.aqe_tables.specs.declared.load.LoadedFile.{LoadedFile}
 use Rattle.aqe_tables.specs.declared.loaded.Table.{Table}
 use Rattle.aqe_tables.specs.FileRows.{file_rows, row_of}
 use Rattle.aqe_tables.specs.Folder.{AreDataNames, DataFile, bytes_of, names_of, path_of}
-use Rattle.aqe_tables.specs.Load.{AreGood, AreWide, FileCause, HasBadFile, IsGood, IsShaped, IsTableOf, LoadCause, StopsAt, files_limit, or_one_empty}
-use Rattle.aqe_tables.specs.Steps.{AreRead, FilesCause, FolderCause, HaveNames, IsRead, NotRead, NotReadCause, ReadUpTo, StopCause}
+use Rattle.aqe_tables.specs.Load.{AreGood, AreWide, FileCause, HasBadFile, IsGood, IsShaped, IsTableOf, LoadCause, StopsAt, files_limit, is_excuse, or_one_empty}
+use Rattle.aqe_tables.specs.Reading.{AreRead, HaveNames, IsRead, NotAllRead, NotListed, NotRead, ReadUpTo, Unless}
 use Rattle.aqe_tables.proofs.FolderFacts.{contents}
 use Rattle.aqe_tables.proofs.RowFacts.{length-row_of}
 
@@ -102,11 +102,16 @@ read_more_told None now table names before i rows total name file k prior read l
 read_more_told (Some files) now table names before i rows total name file k prior read l e =
     read_more files table names before i rows total name file prior (told_before files now (λ f. IsRead f table name total file) k read) l e
 
+-- what follows from a fact does so unless there is an excuse
+unless : {P Q : Type 0} (excused : Bool) → (P → Q) → Unless excused P → Unless excused Q
+unless true so h = tt
+unless false so h = so h
+
 -- a file that is not read stops the others
 stop : (files : Entries) (table : CatalogTable) (names : List (List ℕ)) (before i : ℕ) (rows : List (List (List Value))) (total : ℕ) (name : List ℕ) (why : LoadFault)
     → ReadUpTo files table names before i rows total → NotRead files table name total why → i < length names → name ≡ get_or names i name
-    → FilesCause files table names before why
-stop files table names before i rows total name why prior wrong l e parts have = by why (wrong x.1 at.2)
+    → NotAllRead files table names before why
+stop files table names before i rows total name why prior wrong l e parts have = unless (is_excuse why) stops (wrong x.1 at.2)
   where
     r : AreRead table before parts i rows total
     r = prior parts have
@@ -117,35 +122,27 @@ stop files table names before i rows total name why prior wrong l e parts have =
     x : DataFile
     x = get_or parts i (name, [])
 
-    stops_for : (w : LoadFault) → FileCause table.form.separator (before + bytes_of (take i parts)) x w → StopsAt table.form.separator before parts w
-    stops_for w cause = record {
+    stops : FileCause table.form.separator total (name, x.1) why → StopsAt table.form.separator before parts why
+    stops cause = record {
       front = take i parts;
-      file = x;
+      file = (name, x.1);
       others = drop (suc i) parts;
-      are = sym (take-append-drop i parts) ∙ ap (λ (ys : List DataFile). take i parts ++ ys) (drop-cons parts i (name, []) at.0);
+      are = sym (take-append-drop i parts) ∙ ap (λ (ys : List DataFile). take i parts ++ ys) (drop-cons parts i (name, []) at.0)
+          ∙ ap (λ (n : List ℕ). take i parts ++ (n, x.1) ∷ drop (suc i) parts) at.1;
       good = r.good;
-      cause = cause;
+      cause = rw r.sum at cause;
     }
-
-    by : (w : LoadFault) → NotReadCause table.form.separator total (name, x.1) w → StopCause table.form.separator before parts w
-    by fault.Memory h = tt
-    by fault.ReadFault h = tt
-    by fault.Missing h = h
-    by fault.TooManyFiles h = h
-    by (fault.TooLong file) h = stops_for (fault.TooLong file) (h.0 ∙ sym at.1, h.1)
-    by fault.TooManyBytes h = stops_for fault.TooManyBytes (h.0, rw r.sum at h.1)
-    by (fault.NotBuilt file) h = stops_for (fault.NotBuilt file) (h.0 ∙ sym at.1, h.1, rw r.sum at h.2, h.3)
 
 pub stop_told : (told now : Option Entries) (table : CatalogTable) (names : List (List ℕ)) (before i : ℕ) (rows : List (List (List Value))) (total : ℕ) (name : List ℕ) (why : LoadFault)
     → KeepsFiles told now → WhereTold told (λ files. ReadUpTo files table names before i rows total) → WhereTold now (λ files. NotRead files table name total why)
-    → i < length names → name ≡ get_or names i name → WhereTold told (λ files. FilesCause files table names before why)
+    → i < length names → name ≡ get_or names i name → WhereTold told (λ files. NotAllRead files table names before why)
 stop_told None now table names before i rows total name why k prior wrong l e = tt
 stop_told (Some files) now table names before i rows total name why k prior wrong l e =
     stop files table names before i rows total name why prior (told_before files now (λ f. NotRead f table name total why) k wrong) l e
 
 -- want of memory tells nothing of the files
 pub no_memory_stops : (told : Option Entries) (table : CatalogTable) (names : List (List ℕ)) (before : ℕ) (why : LoadFault) → why ≡ fault.Memory
-    → WhereTold told (λ files. FilesCause files table names before why)
+    → WhereTold told (λ files. NotAllRead files table names before why)
 no_memory_stops None table names before why e = tt
 no_memory_stops (Some files) table names before why e = λ parts have. rw e tt
 
@@ -207,7 +204,7 @@ table_told (Some files) now table names before bytes rows loaded k there are few
 
 -- a file that stops the others refuses the table
 cause_of : (files : Entries) (table : CatalogTable) (names : List (List ℕ)) (before : ℕ) (why : LoadFault) → AreDataNames files table.location names → length names ≤ files_limit
-    → FilesCause files table names before why → LoadCause files table before why
+    → NotAllRead files table names before why → LoadCause files table before why
 cause_of files table names before why are few stops = by (held_names files table.location names are)
   where
     by : ((parts : List DataFile) × HaveNames files table.location names parts) → LoadCause files table before why
@@ -218,32 +215,26 @@ cause_of files table names before why are few stops = by (held_names files table
             let count : length names ≡ length parts = ap length (sym have.named) ∙ names_length parts in
             record { parts = parts; are = record { names = rw have.named are; held = have.held }; few = omega (arith, count, few); stops = s }
 
-        each : (w : LoadFault) → StopCause table.form.separator before parts w → LoadCause files table before w
+        each : (w : LoadFault) → Unless (is_excuse w) (StopsAt table.form.separator before parts w) → LoadCause files table before w
         each fault.Memory h = tt
         each fault.ReadFault h = tt
-        each fault.Missing h = absurd h
-        each fault.TooManyFiles h = absurd h
+        each fault.Missing h = absurd h.cause
+        each fault.TooManyFiles h = absurd h.cause
         each (fault.TooLong file) h = bad (fault.TooLong file) h
         each fault.TooManyBytes h = bad fault.TooManyBytes h
         each (fault.NotBuilt file) h = bad (fault.NotBuilt file) h
 
 pub cause_told : (told now : Option Entries) (table : CatalogTable) (names : List (List ℕ)) (before : ℕ) (why : LoadFault)
     → KeepsFiles told now → WhereTold told (λ files. AreDataNames files table.location names) → length names ≤ files_limit
-    → WhereTold now (λ files. FilesCause files table names before why) → WhereTold told (λ files. LoadCause files table before why)
+    → WhereTold now (λ files. NotAllRead files table names before why) → WhereTold told (λ files. LoadCause files table before why)
 cause_told None now table names before why k are few stops = tt
 cause_told (Some files) now table names before why k are few stops =
-    cause_of files table names before why are few (told_before files now (λ f. FilesCause f table names before why) k stops)
+    cause_of files table names before why are few (told_before files now (λ f. NotAllRead f table names before why) k stops)
 
-pub folder_told : (told : Option Entries) (table : CatalogTable) (before : ℕ) (why : LoadFault) → WhereTold told (λ files. FolderCause files table.location why)
+pub listing_told : (told : Option Entries) (table : CatalogTable) (before : ℕ) (why : LoadFault) → WhereTold told (λ files. NotListed files table why)
     → WhereTold told (λ files. LoadCause files table before why)
-folder_told None table before why h = tt
-folder_told (Some files) table before fault.Memory h = tt
-folder_told (Some files) table before fault.ReadFault h = tt
-folder_told (Some files) table before fault.Missing h = h
-folder_told (Some files) table before fault.TooManyFiles h = h
-folder_told (Some files) table before (fault.TooLong file) h = absurd h
-folder_told (Some files) table before fault.TooManyBytes h = absurd h
-folder_told (Some files) table before (fault.NotBuilt file) h = absurd h
+listing_told None table before why h = tt
+listing_told (Some files) table before why h = h before
 
 pub no_memory_told : (told : Option Entries) (table : CatalogTable) (before : ℕ) (why : LoadFault) → why ≡ fault.Memory → WhereTold told (λ files. LoadCause files table before why)
 no_memory_told None table before why e = tt

@@ -1,11 +1,15 @@
+-- what is to be believed, in the order to read it
 pub mod Fields
 pub mod FileRows
-pub mod Records
 pub mod Options
-pub mod Widths
 pub mod Catalog
 pub mod Folder
 pub mod Load
-pub mod Steps
 pub mod Loaded
+pub mod Steps
 pub mod Laws
+-- what serves private functions, invariants and their proofs
+pub mod Widths
+pub mod Index
+pub mod Records
+pub mod Reading

@@ -40,17 +40,15 @@ AreGood separator before [] = ⊤
 AreGood separator before (file ∷ others) =
     IsGood separator before file.1 × AreGood separator (before + length file.1) others
 
--- why a file is refused: the first of its checks that it fails
+-- Why a file is refused: the first of its checks that it fails. It may not be longer than a text, it must fit beside
+-- what was loaded before, and it must be read so far. No other refusal is of one file.
 abbrev pub FileCause : ℕ → ℕ → DataFile → LoadFault → Type 0
 FileCause separator before file (fault.TooLong name) = (name ≡ file.0) × (text_limit < length file.1)
 FileCause separator before file fault.TooManyBytes =
     (length file.1 ≤ text_limit) × (bytes_limit < before + length file.1)
 FileCause separator before file (fault.NotBuilt name) =
     (name ≡ file.0) × (length file.1 ≤ text_limit) × (before + length file.1 ≤ bytes_limit) × IsUnread separator file.1
-FileCause separator before file fault.ReadFault = ⊥
-FileCause separator before file fault.Missing = ⊥
-FileCause separator before file fault.TooManyFiles = ⊥
-FileCause separator before file fault.Memory = ⊥
+FileCause separator before file other = ⊥
 
 -- the first of these files that does not pass is refused for this cause
 pub record StopsAt (separator before : ℕ) (parts : List DataFile) (why : LoadFault) : Type 0 where
@@ -73,16 +71,14 @@ abbrev pub HasManyFiles : Entries → List ℕ → Type 0
 HasManyFiles files folder =
     (names : List (List ℕ)) × AreDataNames files folder names × (files_limit < length names)
 
--- Why the load of a table is refused, with so many bytes loaded before. Of want of memory and of a store that fails
--- the files tell nothing.
+-- Why the load of a table is refused, with so many bytes loaded before: its folder is not there or has too many files,
+-- or one of its files is refused. Of want of memory and of a store that fails the files tell nothing.
 abbrev pub LoadCause : Entries → CatalogTable → ℕ → LoadFault → Type 0
 LoadCause files table before fault.Memory = ⊤
 LoadCause files table before fault.ReadFault = ⊤
 LoadCause files table before fault.Missing = ¬ (IsFolder files table.location)
 LoadCause files table before fault.TooManyFiles = HasManyFiles files table.location
-LoadCause files table before (fault.TooLong name) = HasBadFile files table before (fault.TooLong name)
-LoadCause files table before fault.TooManyBytes = HasBadFile files table before fault.TooManyBytes
-LoadCause files table before (fault.NotBuilt name) = HasBadFile files table before (fault.NotBuilt name)
+LoadCause files table before other = HasBadFile files table before other
 
 -- a table without files counts as one of one empty file
 abbrev pub or_one_empty : List (List (List Value)) → List (List (List Value))
@@ -118,11 +114,7 @@ pub record IsShaped (width : ℕ) (loaded : Table) : Type 0 where
 abbrev pub is_excuse : LoadFault → Bool
 is_excuse fault.Memory = true
 is_excuse fault.ReadFault = true
-is_excuse fault.Missing = false
-is_excuse fault.TooManyFiles = false
-is_excuse (fault.TooLong name) = false
-is_excuse fault.TooManyBytes = false
-is_excuse (fault.NotBuilt name) = false
+is_excuse other = false
 
 -- no cause of a refusal holds
 abbrev pub HasNoCause : Entries → CatalogTable → ℕ → Type 0

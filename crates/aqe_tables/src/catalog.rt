@@ -1,13 +1,16 @@
 //! The tables that were created.
 
-ghost use Rattle.std.specs.Prelude.{◌≡◌, ◌≢◌, ◌⊎◌, ◌≤◌, ◌<◌, ◌-◌, ◌^◌, [], ◌∷◌, ◌++◌, None, Some, length, position, slice_get, IfOk, IfErr, OnOk, OnErr};
+ghost use Rattle.std.specs.Prelude.{◌≡◌, ◌≢◌, ◌⊎◌, ◌≤◌, ◌<◌, ◌-◌, ◌^◌, [], ◌∷◌, ◌++◌, None, Some, length, slice_get, IfOk, IfErr, OnOk, OnErr};
+ghost use Rattle.std.specs.List.{find as find_in};
 ghost use Rattle.std.specs.Option.{option_map};
-ghost use Rattle.std.specs.Str.{str_eq_ignore_ascii_case};
 ghost use Rattle.aqe_tables.specs.Catalog.{catalog_table, column_limit, create_fault, find_table};
+ghost use Rattle.aqe_tables.specs.Index.{is_named};
+ghost use Rattle.aqe_tables.specs.Loaded.{AreShaped, Slots};
 ghost use Rattle.aqe_tables.specs.declared.catalog.CreateFault.TheVariants as fault;
 
 use crate::columns::{copy_columns, repeated_name};
 use crate::form::FileForm;
+use crate::index::{NameIndex, name_hash};
 use crate::options::{bad_key, has_header, is_same_word, separator_of};
 use aqe_trees::TableForm;
 use aqe_values::{Memory, Schema, Text};
@@ -62,50 +65,41 @@ pub struct CatalogTable {
 pub struct Catalog {
     alloc: Global,
     tables: Vec<CatalogTable>,
+    names: NameIndex,
 }
 
 impl Model for Catalog {
     ghost use Rattle.std.specs.Prelude.{List, All, ◌≤◌, ◌<◌, ◌^◌, length};
     ghost use Rattle.aqe_tables.specs.declared.catalog.CatalogTable.{CatalogTable as TableData};
+    ghost use Rattle.aqe_tables.specs.Index.{IsIndex};
     ghost use Rattle.aqe_tables.specs.Widths.{AreNarrow};
 
     ghost Value = { List TableData };
 
     ghost view = { λ c. c.tables.items };
 
-    ghost invariant = { λ c. (length c.tables.items < 2 ^ 32) × AreNarrow c.tables.items };
+    ghost invariant = { λ c. (length c.tables.items < 2 ^ 32) × AreNarrow c.tables.items
+        × IsIndex c.names.numbers c.tables.items };
 }
 
-/// The place of the table of this name.
-fn place_of(tables: &[CatalogTable], name: &str) -> Option<usize>
-    ensures { result ≡ find_table tables.now name.now }
+/// Whether the table of the number has the name.
+fn has_name(tables: &[CatalogTable], name: &str, number: u32) -> bool
+    ensures { result ≡ is_named tables.now name.now number }
 {
-    tables
+    match tables.get(number as usize) {
+        Some(table) => is_same_word(table.name.as_str(), name),
+        None => false,
+    }
+}
+
+/// The first of the numbers whose table has the name.
+fn first_named(tables: &[CatalogTable], name: &str, numbers: &[u32]) -> Option<u32>
+    ensures { result ≡ find_in (is_named tables.now name.now) numbers.now }
+{
+    numbers
         .iter()
-        .position(|table| is_same_word(table.name.as_str(), name))
-}
-
-/// Checks a table before it is created.
-fn check(alloc: Global, tables: &[CatalogTable], form: &TableForm) -> Result<(), CreateFault>
-    ensures passed { OnOk result (create_fault tables.now form.now ≡ None) }
-    ensures failed { IfErr result (λ e. (e ≡ fault.Memory)
-        ⊎ (create_fault tables.now form.now ≡ Some e)) }
-{
-    if let Some(name) = repeated_name(alloc, form.columns.slice())? {
-        let name = Text::copy_of(alloc, name.as_str())?;
-        return Err(CreateFault::RepeatedColumn { name });
-    }
-    if form.columns.len() > COLUMN_LIMIT {
-        return Err(CreateFault::TooManyColumns);
-    }
-    if let Some(key) = bad_key(form.options.slice()) {
-        let key = Text::copy_of(alloc, key.as_str())?;
-        return Err(CreateFault::BadOption { key });
-    }
-    match place_of(tables, form.name.as_str()) {
-        Some(_) => Err(CreateFault::TableExists),
-        None => Ok(()),
-    }
+        .copied()
+        .find(|number| has_name(tables, name, *number))
 }
 
 fn file_form_of(alloc: Global, form: &TableForm) -> Result<FileForm, Memory>
@@ -142,6 +136,52 @@ impl Catalog {
         Catalog {
             alloc,
             tables: Vec::new(alloc),
+            names: NameIndex::new(alloc),
+        }
+    }
+
+    /// Checks a table before it is created.
+    fn check(&self, form: &TableForm) -> Result<(), CreateFault>
+        ensures passed { OnOk result (create_fault self.now form.now ≡ None) }
+        ensures failed { IfErr result (λ e. (e ≡ fault.Memory)
+            ⊎ (create_fault self.now form.now ≡ Some e)) }
+    {
+        if let Some(name) = repeated_name(self.alloc, form.columns.slice())? {
+            let name = Text::copy_of(self.alloc, name.as_str())?;
+            return Err(CreateFault::RepeatedColumn { name });
+        }
+        if form.columns.len() > COLUMN_LIMIT {
+            return Err(CreateFault::TooManyColumns);
+        }
+        if let Some(key) = bad_key(form.options.slice()) {
+            let key = Text::copy_of(self.alloc, key.as_str())?;
+            return Err(CreateFault::BadOption { key });
+        }
+        match self.find(&form.name) {
+            Some(_) => Err(CreateFault::TableExists),
+            None => Ok(()),
+        }
+    }
+
+    /// Puts a table behind the others, and its number under the hash of its name.
+    fn put(&mut self, table: CatalogTable) -> Result<u32, Memory>
+        requires room { length self.old < 2 ^ 32 - 1 }
+        requires narrow { length table.form.schema ≤ column_limit }
+        ensures put { IfOk result (λ number. (number ≡ length self.old)
+            × (self.new ≡ self.old ++ table ∷ [])) }
+        ensures kept { OnErr result (self.new ≡ self.old) }
+    {
+        let number = self.tables.len() as u32;
+        let hash = name_hash(table.name.as_str());
+        if self.tables.push(table).is_err() {
+            return Err(Memory);
+        }
+        match self.names.add(hash, number) {
+            Ok(()) => Ok(number),
+            Err(error) => {
+                self.tables.truncate(number as usize);
+                Err(error)
+            }
         }
     }
 
@@ -155,24 +195,23 @@ impl Catalog {
         ensures failed { IfErr result (λ e. (e ≡ fault.Memory)
             ⊎ (create_fault self.old form.now ≡ Some e)) }
         ensures kept { OnErr result (self.new ≡ self.old) }
+        // Loaded tables keep their shapes, since the numbers of earlier tables stay.
+        ensures shapes { (slots : Slots) → AreShaped self.old slots → AreShaped self.new slots }
     {
-        check(self.alloc, self.tables.as_slice(), form)?;
+        self.check(form)?;
         let table = table_of(self.alloc, form)?;
-        let number = self.tables.len() as u32;
-        match self.tables.push(table) {
-            Ok(()) => Ok(number),
-            Err(_) => Err(CreateFault::Memory),
-        }
+        let number = self.put(table)?;
+        Ok(number)
     }
 
     /// The number of the table of this name, whatever the cases of its ASCII letters.
+    ///
+    /// The name is hashed and then compared with the names of that hash alone.
     pub fn find(&self, name: &Text) -> Option<u32>
         ensures { result ≡ find_table self.now name.now }
     {
-        match place_of(self.tables.as_slice(), name.as_str()) {
-            Some(place) => Some(place as u32),
-            None => None,
-        }
+        let numbers = self.names.numbers(name_hash(name.as_str()));
+        first_named(self.tables.as_slice(), name.as_str(), numbers)
     }
 
     /// What the catalog keeps of a table.

@@ -8,9 +8,11 @@ ghost use Rattle.aqe_store.specs.Files.{IsFolder};
 ghost use Rattle.aqe_store.specs.Told.{WhereTold};
 ghost use Rattle.aqe_tables.specs.Folder.{AreDataNames, is_data_name as is_data_name_text, path_of};
 ghost use Rattle.aqe_tables.specs.Load.{files_limit};
-ghost use Rattle.aqe_tables.specs.Steps.{FolderCause, IsStep};
+ghost use Rattle.aqe_tables.specs.Reading.{NotListed};
+ghost use Rattle.aqe_tables.specs.Steps.{IsStoreStep};
 ghost use Rattle.aqe_tables.specs.declared.fault.LoadFault.TheVariants as fault;
 
+use crate::catalog::CatalogTable;
 use crate::fault::LoadFault;
 use aqe_base::Memory;
 use aqe_store::{Names, Store, StoreFail};
@@ -67,23 +69,22 @@ fn few_names(names: Names) -> Result<Names, LoadFault>
     Ok(names)
 }
 
-/// The names of the data files of a folder, in byte order.
+/// The names of the data files of a table's folder, in byte order.
 pub(crate) fn data_names<S: Store>(
     alloc: Global,
     store: &mut S,
-    folder: &str,
+    table: &CatalogTable,
 ) -> Result<Names, LoadFault>
     ensures names { IfOk result (λ names. WhereTold (S.files store.old)
-        (λ files. AreDataNames files folder.now names)) }
+        (λ files. AreDataNames files table.now.location names)) }
     ensures few { IfOk result (λ names. length names ≤ files_limit) }
     ensures there { OnOk result (WhereTold (S.files store.old)
-        (λ files. IsFolder files folder.now)) }
+        (λ files. IsFolder files table.now.location)) }
     ensures refused { IfErr result (λ why. WhereTold (S.files store.old)
-        (λ files. FolderCause files folder.now why)) }
-    ensures step { IsStep fault.ReadFault fault.Missing (S.files store.old) (S.files store.new) (S.faults store.old)
-        (S.faults store.new) (S.misses store.old) (S.misses store.new) result }
+        (λ files. NotListed files table.now why)) }
+    ensures step { IsStoreStep fault.ReadFault fault.Missing S.files S.faults S.misses store.old store.new result }
 {
-    let names = match store.list(alloc, folder) {
+    let names = match store.list(alloc, table.location.as_str()) {
         Ok(names) => names,
         Err(StoreFail::Failed) => return Err(LoadFault::ReadFault),
         Err(StoreFail::Missing) => return Err(LoadFault::Missing),

@@ -7,6 +7,7 @@ mod fault;
 mod field;
 mod folder;
 mod form;
+mod index;
 mod laws;
 mod load;
 mod loaded;

@@ -1,6 +1,6 @@
 //! The files of a table read one after the other.
 
-ghost use Rattle.std.specs.Prelude.{◌≡◌, ◌≤◌, ◌+◌, length, Err, IfOk, IfErr, OnOk};
+ghost use Rattle.std.specs.Prelude.{◌≡◌, ◌⊎◌, ◌≤◌, ◌+◌, length, Err, IfOk, IfErr, OnOk};
 ghost use Rattle.std.specs.Prelude.{All, Some};
 ghost use Rattle.std.specs.List.{list_all};
 ghost use Rattle.aqe_values.specs.Bounds.{text_limit};
@@ -8,8 +8,9 @@ ghost use Rattle.aqe_store.specs.Files.{content_of};
 ghost use Rattle.aqe_store.specs.Told.{WhereTold};
 ghost use Rattle.aqe_tables.specs.Catalog.{column_limit};
 ghost use Rattle.aqe_tables.specs.FileRows.{file_rows};
-ghost use Rattle.aqe_tables.specs.Load.{AreWide, IsGood, IsShaped, IsTableOf, IsUnread, LoadCause, bytes_limit, files_limit, is_plain as is_plain_byte, or_one_empty as or_one_empty_file};
-ghost use Rattle.aqe_tables.specs.Steps.{BytesCause, FilesCause, IsRead, IsStep, NotRead, ReadUpTo, RowsCause};
+ghost use Rattle.aqe_tables.specs.Load.{AreWide, FileCause, IsGood, IsShaped, IsTableOf, IsUnread, LoadCause, bytes_limit, files_limit, is_plain as is_plain_byte, or_one_empty as or_one_empty_file};
+ghost use Rattle.aqe_tables.specs.Reading.{AreAllRead, IsRead, NotAllRead, NotHad, NotRead};
+ghost use Rattle.aqe_tables.specs.Steps.{IsStoreStep};
 ghost use Rattle.aqe_tables.specs.declared.fault.LoadFault.TheVariants as fault;
 ghost use Rattle.aqe_tables.specs.declared.records.FileFail.TheVariants as fail;
 
@@ -57,9 +58,8 @@ fn file_bytes<S: Store>(
         (λ files. content_of files path.now ≡ Some bytes)) }
     ensures bound { IfOk result (λ bytes. length bytes ≤ text_limit) }
     ensures refused { IfErr result (λ why. WhereTold (S.files store.old)
-        (λ files. BytesCause files path.now name.now why)) }
-    ensures step { IsStep fault.ReadFault fault.Missing (S.files store.old) (S.files store.new) (S.faults store.old)
-        (S.faults store.new) (S.misses store.old) (S.misses store.new) result }
+        (λ files. NotHad files path.now name.now why)) }
+    ensures step { IsStoreStep fault.ReadFault fault.Missing S.files S.faults S.misses store.old store.new result }
 {
     match read_with(alloc, store, buffer, path, FILE_LIMIT) {
         Ok(bytes) => Ok(bytes),
@@ -100,7 +100,8 @@ fn checked_rows(
     requires room { before ≤ bytes_limit }
     ensures rows { IfOk result (λ rows. rows ≡ file_rows form.now bytes.now) }
     ensures good { OnOk result (IsGood form.now.separator before bytes.now) }
-    ensures refused { IfErr result (λ why. RowsCause form.now.separator before (name.now, bytes.now) why) }
+    ensures refused { IfErr result (λ why. (why ≡ fault.Memory)
+        ⊎ FileCause form.now.separator before (name.now, bytes.now) why) }
 {
     if bytes.len() as u64 > BYTES_LIMIT - before {
         return Err(LoadFault::TooManyBytes);
@@ -132,8 +133,7 @@ fn read_file<S: Store>(
     ensures room { IfOk result (λ file. before + file.bytes ≤ bytes_limit) }
     ensures refused { IfErr result (λ why. WhereTold (S.files store.old)
         (λ files. NotRead files table.now name.now before why)) }
-    ensures step { IsStep fault.ReadFault fault.Missing (S.files store.old) (S.files store.new) (S.faults store.old)
-        (S.faults store.new) (S.misses store.old) (S.misses store.new) result }
+    ensures step { IsStoreStep fault.ReadFault fault.Missing S.files S.faults S.misses store.old store.new result }
 {
     let path = path_in(alloc, table.location.as_str(), name.as_str())?;
     let bytes = file_bytes(alloc, store, buffer, path.as_str(), name.as_str())?;
@@ -155,15 +155,14 @@ fn read_files<S: Store>(
 ) -> Result<Table, LoadFault>
     requires narrow { length table.now.form.schema ≤ column_limit }
     requires room { before ≤ bytes_limit }
-    ensures read { IfOk result (λ read. WhereTold (S.files store.old) (λ files. ReadUpTo files
-        table.now names.now before (length names.now) read.files (before + read.bytes))) }
+    ensures read { IfOk result (λ read. WhereTold (S.files store.old)
+        (λ files. AreAllRead files table.now names.now before read)) }
     ensures count { IfOk result (λ read. length read.files ≡ length names.now) }
     ensures wide { IfOk result (λ read. All (AreWide (length table.now.form.schema)) read.files) }
     ensures room { IfOk result (λ read. before + read.bytes ≤ bytes_limit) }
     ensures refused { IfErr result (λ why. WhereTold (S.files store.old)
-        (λ files. FilesCause files table.now names.now before why)) }
-    ensures step { IsStep fault.ReadFault fault.Missing (S.files store.old) (S.files store.new) (S.faults store.old)
-        (S.faults store.new) (S.misses store.old) (S.misses store.new) result }
+        (λ files. NotAllRead files table.now names.now before why)) }
+    ensures step { IsStoreStep fault.ReadFault fault.Missing S.files S.faults S.misses store.old store.new result }
 {
     let mut files = Listing::new(alloc);
     let mut total = before;
@@ -203,10 +202,9 @@ pub(crate) fn read_table<S: Store>(
     ensures room { IfOk result (λ loaded. before + loaded.bytes ≤ bytes_limit) }
     ensures refused { IfErr result (λ why. WhereTold (S.files store.old)
         (λ files. LoadCause files table.now before why)) }
-    ensures step { IsStep fault.ReadFault fault.Missing (S.files store.old) (S.files store.new) (S.faults store.old)
-        (S.faults store.new) (S.misses store.old) (S.misses store.new) result }
+    ensures step { IsStoreStep fault.ReadFault fault.Missing S.files S.faults S.misses store.old store.new result }
 {
-    let names = data_names(alloc, store, table.location.as_str())?;
+    let names = data_names(alloc, store, table)?;
     let mut buffer = ReadBuffer::new(alloc)?;
     let read = read_files(alloc, store, &mut buffer, table, names.slice(), before)?;
     let files = or_one_empty(alloc, read.files)?;

@@ -1,12 +1,13 @@
 //! The tables that were loaded, by number.
 
-ghost use Rattle.std.specs.Prelude.{◌≡◌, ◌≢◌, ◌≤◌, ◌<◌, ◌+◌, ◌^◌, ℕ, [], None, Some, length, slice_get, vec_len, IsOk, IsSome, IfOk, IfErr, IfSome, OnOk, OnErr};
+ghost use Rattle.std.specs.Prelude.{◌≡◌, ◌≢◌, ◌≤◌, ◌<◌, ◌+◌, ◌^◌, ℕ, List, [], None, Some, length, slice_get, vec_len, IsOk, IsSome, IfOk, IfErr, IfSome, OnOk, OnErr};
 ghost use Rattle.std.specs.Option.{is_some, IsSomeAnd};
 ghost use Rattle.aqe_store.specs.Told.{WhereTold};
-ghost use Rattle.aqe_tables.specs.Load.{HasNoCause, HasNoOtherCause, IsShaped, IsTableOf, LoadCause};
+ghost use Rattle.aqe_tables.specs.declared.catalog.CatalogTable.{CatalogTable as TableData};
 ghost use Rattle.aqe_tables.specs.declared.fault.LoadFault.TheVariants as fault;
-ghost use Rattle.aqe_tables.specs.Loaded.{AreSmall, IsLoaded, Loads, Pads, WhereLoaded, all_bytes, table_at};
-ghost use Rattle.aqe_tables.specs.Steps.{IsStep};
+ghost use Rattle.aqe_tables.specs.Loaded.{AreShaped, AreSmall, IsLoaded, Loads, Pads, WhereLoaded, all_bytes, table_at};
+ghost use Rattle.aqe_tables.specs.Loaded.{HasLoadCause, HasNoLoadCause, HasNoOtherLoadCause, IsLoadedFrom, IsShapedBy};
+ghost use Rattle.aqe_tables.specs.Steps.{IsStoreStep};
 
 use crate::catalog::Catalog;
 use crate::fault::LoadFault;
@@ -73,7 +74,8 @@ fn put(slots: &mut Vec<Option<Table>>, table: u32, loaded: Table) -> Result<(), 
 impl Tables {
     /// No table is loaded. It takes no memory until the first `load`.
     pub fn new(alloc: Global) -> Tables
-        ensures { result ≡ [] }
+        ensures none { result ≡ [] }
+        ensures shapes { (catalog : List TableData) → AreShaped catalog result }
     {
         Tables {
             alloc,
@@ -146,28 +148,23 @@ impl Tables {
         // What success means: the table is that of the files, and all others stay.
         ensures loaded { OnOk result (IsLoaded self.new table) }
         ensures rows { OnOk result (table_at self.old table ≡ None → WhereTold (S.files store.old)
-            (λ files. WhereLoaded catalog.now self.new table
-            (λ form loaded. IsTableOf files form (all_bytes self.old) loaded))) }
+            (λ files. IsLoadedFrom files catalog.now self.old table self.new)) }
         ensures shaped { OnOk result (table_at self.old table ≡ None
-            → WhereLoaded catalog.now self.new table
-            (λ form loaded. IsShaped (length form.form.schema) loaded)) }
+            → WhereLoaded catalog.now self.new table IsShapedBy) }
+        ensures shapes { AreShaped catalog.now self.old → AreShaped catalog.now self.new }
         ensures others { (n : ℕ) → n ≢ table → table_at self.new n ≡ table_at self.old n }
 
         // Each refusal has its cause in the files, or shows in a count of the store.
         ensures refused { IfErr result (λ why. WhereTold (S.files store.old)
-            (λ files. IfSome (slice_get catalog.now table)
-            (λ form. LoadCause files form (all_bytes self.old) why))) }
-        ensures step { IsStep fault.ReadFault fault.Missing (S.files store.old) (S.files store.new) (S.faults store.old)
-            (S.faults store.new) (S.misses store.old) (S.misses store.new) result }
+            (λ files. HasLoadCause files catalog.now self.old table why)) }
+        ensures step { IsStoreStep fault.ReadFault fault.Missing S.files S.faults S.misses store.old store.new result }
         ensures kept { OnErr result (self.new ≡ self.old) }
 
         // Where a cause holds, its refusal comes, unless a failure or want of memory came first.
         ensures sure { OnOk result (table_at self.old table ≡ None → WhereTold (S.files store.old)
-            (λ files. IfSome (slice_get catalog.now table)
-            (λ form. HasNoCause files form (all_bytes self.old)))) }
+            (λ files. HasNoLoadCause files catalog.now self.old table)) }
         ensures exact { IfErr result (λ why. WhereTold (S.files store.old)
-            (λ files. IfSome (slice_get catalog.now table)
-            (λ form. HasNoOtherCause files form (all_bytes self.old) why))) }
+            (λ files. HasNoOtherLoadCause files catalog.now self.old table why)) }
     {
         if self.is_loaded(table) {
             return Ok(());

@@ -6,11 +6,11 @@ pub returns-in_err-few-clause-refused : goal.returns-in_err-few-clause-refused
 returns-in_err-few-clause-refused g c =
     let p = err_from_is_err_and c.from_residual-in_err-few.result c.from_residual-in_err-few.ensures.1 in
     rw (p.1, p.2)
-    (many_told (g.S.Store.files c.args.store.now) c.args.folder.now c.in-Ok.names c.in_ok-sorted.sorted c.in_err-few.field-0.0 c.in-Ok.ensures.names
+    (many_told (g.S.Store.files c.args.store.now) c.args.table.now c.in-Ok.names c.in_ok-sorted.sorted c.in_err-few.field-0.0 (rw c.as_str.ensures.value at c.in-Ok.ensures.names)
     c.in_ok-sorted.ensures.kept c.in_ok-sorted.ensures.rising c.in_err-few.ensures.1 c.in_err-few.ensures.0)
 
 pub returns-clause-names : goal.returns-clause-names
 returns-clause-names g c =
     rw c.in_ok-few.ensures.0
-    (sorted_told (g.S.Store.files c.args.store.now) c.args.folder.now c.in-Ok.names c.in_ok-sorted.sorted c.in-Ok.ensures.names
+    (sorted_told (g.S.Store.files c.args.store.now) c.args.table.now.location c.in-Ok.names c.in_ok-sorted.sorted (rw c.as_str.ensures.value at c.in-Ok.ensures.names)
     c.in_ok-sorted.ensures.kept c.in_ok-sorted.ensures.rising)

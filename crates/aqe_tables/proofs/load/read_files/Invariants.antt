@@ -3,7 +3,7 @@ use Rattle.std.proofs.Common.{◌≡◌, ◌≤◌, length}
 use Rattle.std.specs.Prelude.{All}
 use Rattle.aqe_store.specs.Told.{KeepsFiles, WhereTold}
 use Rattle.aqe_tables.specs.Load.{AreWide, bytes_limit}
-use Rattle.aqe_tables.specs.Steps.{ReadUpTo}
+use Rattle.aqe_tables.specs.Reading.{ReadUpTo}
 use Rattle.aqe_tables.proofs.load.read_files.Given as goal
 
 abbrev pub invariant-files : goal.invariant-files
