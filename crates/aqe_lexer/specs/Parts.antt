@@ -45,6 +45,10 @@ string_part quote bytes = let b = slice_index bytes 0 in
     else if b == 92 then (if nat_lt (length bytes) 2 || is_refused (drop 1 bytes) then 0 else 2)
     else 1
 
+-- from one place in a string to the next, over the part between them
+abbrev pub string_step : ℕ → List ℕ → Option (List ℕ)
+string_step quote bytes = step_by (string_part quote) bytes
+
 -- what a string is, from the bytes behind its first quote and what is left where its parts stop
 abbrev pub string_end : ℕ → List ℕ → List ℕ → Piece
 string_end quote bytes rest = let read = length bytes - length rest in

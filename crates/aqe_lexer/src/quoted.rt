@@ -1,7 +1,7 @@
 //! Strings and quoted names.
 
 ghost use Rattle.std.specs.Prelude.{◌≡◌, ◌<◌, ◌≤◌, ◌+◌, length, drop, take, ℕ, None, Some, MatchOption};
-ghost use Rattle.aqe_lexer.specs.Parts.{EndsIn, step_by, string_part, string_end, name_part, name_end};
+ghost use Rattle.aqe_lexer.specs.Parts.{EndsIn, step_by, string_part, string_step, string_end, name_part, name_end};
 
 use crate::skip::behind;
 use crate::{Fault, Piece, TokenKind};
@@ -24,9 +24,9 @@ fn string_part(quote: u8, bytes: &[u8]) -> usize
 
 /// What is left behind the part of a string that the bytes begin with, if one stands there.
 fn string_step(quote: u8, bytes: &[u8]) -> Option<&[u8]>
-    ensures { MatchOption result (step_by (string_part quote) bytes.now ≡ None) (λ rest.
-        (step_by (string_part quote) bytes.now ≡ Some rest.now)
-        × (length rest.now < length bytes.now)) }
+    ensures { MatchOption result
+        (string_step quote bytes.now ≡ None)
+        (λ rest. (string_step quote bytes.now ≡ Some rest.now) × (length rest.now < length bytes.now)) }
 {
     behind(bytes, string_part(quote, bytes))
 }

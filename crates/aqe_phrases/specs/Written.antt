@@ -10,7 +10,7 @@ use Rattle.aqe_trees.specs.declared.expression.Sign.TheVariants as sign
 use Rattle.aqe_trees.specs.declared.expression.OrTree.{OrTree}
 use Rattle.aqe_trees.specs.Expressions.{IsOr}
 use Rattle.aqe_trees.specs.declared.terminal.Terminal.TheVariants.{Fixed, Name, Literal, Number, Mixed}
-use Rattle.aqe_script.specs.Statements.{parts}
+use Rattle.aqe_script.specs.Statements.{ends_statement}
 use Rattle.aqe_phrases.specs.Texts.{is_bare, text_of_all}
 
 -- what holds of each terminal of a source: a name has bytes, and a number is within its limit
@@ -25,9 +25,9 @@ abbrev pub AllStand : List Terminal → Type 0
 AllStand [] = Unit {0}
 AllStand (t ∷ ts) = Stands t × AllStand ts
 
--- a terminal that is written: it parts no statements, and a name is quoted exactly where it has to be
+-- a terminal that is written: no statement ends at it, and a name is quoted exactly where it has to be
 abbrev pub Sound : Terminal → Type 0
-Sound (Fixed key) = parts (Some key) ≡ false
+Sound (Fixed key) = ends_statement (Some key) ≡ false
 Sound (Name text quoted) = (0 < length text) × IsUtf8 text × (quoted ≡ not (is_bare text))
 Sound (Literal text) = IsUtf8 text
 Sound (Number value long) = value ≤ 9223372036854775808

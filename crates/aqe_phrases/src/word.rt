@@ -13,7 +13,7 @@ use aqe_values::Text;
 use itoa::Buffer;
 use std::alloc::AllocError;
 
-/// Writes a reserved word or a symbol, other than the one that parts statements.
+/// Writes a reserved word or a symbol, other than the one at which a statement ends.
 pub fn fixed(out: &mut Vec<u8>, key: Key) -> Result<(), AllocError>
     requires { Sound (Fixed key) }
     ensures { OnOk result (Adds (λ us. Fixed key ∷ us) out.old.items out.new.items) }

@@ -14,7 +14,7 @@ use Rattle.aqe_trees.specs.Follow.{Stops}
 use Rattle.aqe_trees.specs.Expressions.{IsOr, IsPrimary, case, case_of, IsArms, end, otherwise, when}
 use Rattle.aqe_trees.proofs.OneExpression.{at_value, at_arms, arms_stop, or_starts}
 use Rattle.aqe_reader.specs.Reading.{Read, Part, Taken, Refuses, Never}
-use Rattle.aqe_reader.specs.Steps.{IsOperand, no_operand, an_operand, IsArm, arm_of, IsBranches}
+use Rattle.aqe_reader.specs.Steps.{IsOperand, no_operand, an_operand, IsArm, arm_of, IsBranches, IsEnding, Keyed}
 
 -- or THEN or
 arm_only : {ts rest after left ws : List Terminal} {first gives : OrTree} {v : Arm} → Read IsOr 14 ts first rest → rest ≡ Fixed k.Then ∷ after →
@@ -57,8 +57,8 @@ arm_refused n = λ v ws d s. no_when n d
 end_only : {left ws : List Terminal} {v : Option OrTree} → IsArms [] v (Fixed k.End ∷ left) ws → (None ≡ v) × (left ≡ ws)
 end_only end = (refl, refl)
 
-pub end_taken : {ts left : List Terminal} → ts ≡ Fixed k.End ∷ left → Taken (λ t xs ys. IsArms [] t xs ys) ts None left
-end_taken {left = left} e = subst (λ x. Taken (λ t xs ys. IsArms [] t xs ys) x None left) (sym e)
+pub end_taken : {ts left : List Terminal} → ts ≡ Fixed k.End ∷ left → Taken IsEnding ts None left
+end_taken {left = left} e = subst (λ x. Taken IsEnding x None left) (sym e)
     (record { found = end; only = λ v ws d. end_only d; shorter = omega arith })
 
 else_only : {after rest left ws : List Terminal} {value : OrTree} {v : Option OrTree} → Read IsOr 14 after value rest → rest ≡ Fixed k.End ∷ left →
@@ -66,8 +66,8 @@ else_only : {after rest left ws : List Terminal} {value : OrTree} {v : Option Or
 else_only r e (otherwise d) = let p = r.only _ _ d (lit< tt) in (cc, cc)
 
 pub else_taken : {ts after rest left : List Terminal} {value : OrTree} → ts ≡ Fixed k.Else ∷ after → Read IsOr 14 after value rest → rest ≡ Fixed k.End ∷ left →
-    Taken (λ t xs ys. IsArms [] t xs ys) ts (Some value) left
-else_taken {after = after} {left = left} {value = value} b r e = subst (λ x. Taken (λ t xs ys. IsArms [] t xs ys) x (Some value) left) (sym b)
+    Taken IsEnding ts (Some value) left
+else_taken {after = after} {left = left} {value = value} b r e = subst (λ x. Taken IsEnding x (Some value) left) (sym b)
     (record {
       found = otherwise (subst (λ x. IsOr value after x) e r.found);
       only = λ v ws d. else_only r e d;
@@ -79,14 +79,14 @@ no_end : {after rest ws : List Terminal} {value : OrTree} {v : Option OrTree} �
 no_end r n (otherwise d) = n _ ((r.only _ _ d (lit< tt)).1)
 
 pub else_cut : {ts after rest : List Terminal} {value : OrTree} → ts ≡ Fixed k.Else ∷ after → Read IsOr 14 after value rest →
-    ((us : List Terminal) → rest ≡ Fixed k.End ∷ us → ⊥) → Never (λ t xs ys. IsArms [] t xs ys) ts
-else_cut b r n = subst (λ x. Never (λ t xs ys. IsArms [] t xs ys) x) (sym b) (λ v ws d. no_end r n d)
+    ((us : List Terminal) → rest ≡ Fixed k.End ∷ us → ⊥) → Never IsEnding ts
+else_cut b r n = subst (λ x. Never IsEnding x) (sym b) (λ v ws d. no_end r n d)
 
 no_else : {after ws : List Terminal} {v : Option OrTree} → Refuses IsOr 14 after → IsArms [] v (Fixed k.Else ∷ after) ws → ⊥
 no_else n (otherwise d) = n _ _ d (lit< tt)
 
-pub else_never : {ts after : List Terminal} → ts ≡ Fixed k.Else ∷ after → Refuses IsOr 14 after → Never (λ t xs ys. IsArms [] t xs ys) ts
-else_never b n = subst (λ x. Never (λ t xs ys. IsArms [] t xs ys) x) (sym b) (λ v ws d. no_else n d)
+pub else_never : {ts after : List Terminal} → ts ≡ Fixed k.Else ∷ after → Refuses IsOr 14 after → Never IsEnding ts
+else_never b n = subst (λ x. Never IsEnding x) (sym b) (λ v ws d. no_else n d)
 
 -- the operand
 absent_only : {us ws : List Terminal} {v : Option OrTree} → IsOperand v (Fixed k.When ∷ us) ws → (None ≡ v) × (Fixed k.When ∷ us ≡ ws)
@@ -172,7 +172,7 @@ armless n (otherwise d) = (refl, otherwise d)
 armless n (when d e q) = absurd (n _ refl)
 
 branches_only : {ts rest left ws : List Terminal} {arms t : List Arm} {other u : Option OrTree} → ArmsLeft ts rest arms → ((us : List Terminal) → rest ≡ Fixed k.When ∷ us → ⊥) →
-    Taken (λ t xs ys. IsArms [] t xs ys) rest other left → IsArms t u ts ws → (arms ≡ t) × (other ≡ u) × (left ≡ ws)
+    Taken IsEnding rest other left → IsArms t u ts ws → (arms ≡ t) × (other ≡ u) × (left ≡ ws)
 branches_only {arms = arms} l n r d =
     let b = l.back _ _ _ d in
     let m = armless n b.2 in
@@ -183,7 +183,7 @@ both : {a c : List Arm} {b d : Option OrTree} → a ≡ c → b ≡ d → ◌≡
 both e f = rw (e, f) refl
 
 pub branches_taken : {ts rest left : List Terminal} {arms : List Arm} {other : Option OrTree} → ArmsLeft ts rest arms → ((us : List Terminal) → rest ≡ Fixed k.When ∷ us → ⊥) →
-    Taken (λ t xs ys. IsArms [] t xs ys) rest other left → Taken IsBranches ts (arms, other) left
+    Taken IsEnding rest other left → Taken IsBranches ts (arms, other) left
 branches_taken {ts = ts} {left = left} {arms = arms} {other = other} l n r = record {
   found = subst (λ x. IsArms x other ts left) (append-nil arms) (l.more [] other left r.found);
   only = λ v ws d. let p = branches_only l n r d in (both p.0 p.1, p.2);
@@ -195,7 +195,7 @@ pub branches_broken : {ts rest after : List Terminal} {arms : List Arm} → Arms
 branches_broken l e n = λ v ws d. let b = l.back _ _ _ d in broken_back n (subst (λ x. IsArms b.0 v.1 x ws) e b.2)
 
 pub branches_endless : {ts rest : List Terminal} {arms : List Arm} → ArmsLeft ts rest arms → ((us : List Terminal) → rest ≡ Fixed k.When ∷ us → ⊥) →
-    Never (λ t xs ys. IsArms [] t xs ys) rest → Never IsBranches ts
+    Never IsEnding rest → Never IsBranches ts
 branches_endless l n m = λ v ws d. let b = l.back _ _ _ d in m _ _ ((armless n b.2).1)
 
 -- the whole
@@ -224,7 +224,7 @@ case_only {arms = arms} {other = other} o b (case_of {operand = w} {first = firs
     (cc, q.1)
 
 case_at : {arms : List Arm} {operand other : Option OrTree} {ts after left : List Terminal} → Part IsOperand 14 ts operand (Fixed k.When ∷ after) →
-    Taken IsBranches (Fixed k.When ∷ after) (arms, other) left → Part (λ t xs ys. IsPrimary t (Fixed k.Case ∷ xs) ys) 20 ts (primary.Case operand arms other) left
+    Taken IsBranches (Fixed k.When ∷ after) (arms, other) left → Part (Keyed k.Case) 20 ts (primary.Case operand arms other) left
 case_at {arms = arms} o b = record {
   found = case_found arms o.found b.found;
   only = λ v ws d s. case_only o b d;
@@ -233,7 +233,7 @@ case_at {arms = arms} o b = record {
 
 pub case_read : {arms : List Arm} {operand other : Option OrTree} {ts rest after left : List Terminal} → Part IsOperand 14 ts operand rest →
     rest ≡ Fixed k.When ∷ after → Taken IsBranches (Fixed k.When ∷ after) (arms, other) left →
-    Part (λ t xs ys. IsPrimary t (Fixed k.Case ∷ xs) ys) 20 ts (primary.Case operand arms other) left
+    Part (Keyed k.Case) 20 ts (primary.Case operand arms other) left
 case_read {operand = operand} {ts = ts} o e b = case_at (subst (λ x. Part IsOperand 14 ts operand x) e o) b
 
 never_case : {operand : Option OrTree} {ts rest ws : List Terminal} {v : PrimaryTree} → Part IsOperand 14 ts operand rest →
@@ -246,16 +246,16 @@ no_when_first : {first : Arm} {more : List Arm} {other : Option OrTree} {ts us :
 no_when_first n (when d e q) = n _ refl
 
 pub case_armless : {operand : Option OrTree} {ts rest : List Terminal} → Part IsOperand 14 ts operand rest →
-    ((us : List Terminal) → rest ≡ Fixed k.When ∷ us → ⊥) → Refuses (λ t xs ys. IsPrimary t (Fixed k.Case ∷ xs) ys) 20 ts
+    ((us : List Terminal) → rest ≡ Fixed k.When ∷ us → ⊥) → Refuses (Keyed k.Case) 20 ts
 case_armless o n = λ v ws d s. never_case o (λ first more u us a. no_when_first n a) d
 
 pub case_endless : {operand : Option OrTree} {ts rest after : List Terminal} → Part IsOperand 14 ts operand rest → rest ≡ Fixed k.When ∷ after →
-    Never IsBranches (Fixed k.When ∷ after) → Refuses (λ t xs ys. IsPrimary t (Fixed k.Case ∷ xs) ys) 20 ts
+    Never IsBranches (Fixed k.When ∷ after) → Refuses (Keyed k.Case) 20 ts
 case_endless o e n = λ v ws d s. never_case o (λ first more other us a. n (first ∷ more, other) us (at_arms (sym e) a)) d
 
 no_case : {ts ws : List Terminal} {v : PrimaryTree} → Refuses IsOperand 14 ts → IsPrimary v (Fixed k.Case ∷ ts) ws → ⊥
 no_case n (case a) = n None _ (first_when a) (arms_stop a)
 no_case n (case_of {operand = w} d a) = n (Some w) _ (an_operand d) (arms_stop a)
 
-pub case_refused : {ts : List Terminal} → Refuses IsOperand 14 ts → Refuses (λ t xs ys. IsPrimary t (Fixed k.Case ∷ xs) ys) 20 ts
+pub case_refused : {ts : List Terminal} → Refuses IsOperand 14 ts → Refuses (Keyed k.Case) 20 ts
 case_refused n = λ v ws d s. no_case n d

@@ -13,8 +13,8 @@ use Rattle.aqe_trees.specs.Words.{type_of, is_word, count_word}
 use Rattle.aqe_trees.specs.Follow.{Stops}
 use Rattle.aqe_trees.specs.Expressions.{IsOr, IsList, IsPrimary, number, negative_number, literal, is_true, is_false, null, column, table_column, paren, cast, case, case_of, count_all, call}
 use Rattle.aqe_trees.proofs.OneExpression.{no_star}
-use Rattle.aqe_reader.specs.Reading.{Read, Part, Refuses, Never}
-use Rattle.aqe_reader.specs.Steps.{IsAsType, as_type}
+use Rattle.aqe_reader.specs.Reading.{Read, Part, Refuses, Never, NoName}
+use Rattle.aqe_reader.specs.Steps.{IsAsType, as_type, Keyed, Numbered, Named, Dotted, Called, Counted, NoStar}
 
 -- numbers
 number_only : {value : ℕ} {long : Bool} {ts ws : List Terminal} {v : PrimaryTree} → IsPrimary v (Number value long ∷ ts) ws →
@@ -22,7 +22,7 @@ number_only : {value : ℕ} {long : Bool} {ts ws : List Terminal} {v : PrimaryTr
 number_only (number h) = (refl, refl)
 
 pub number_read : {value : ℕ} {long : Bool} {ts : List Terminal} → value ≤ 9223372036854775807 →
-    Part (λ t xs ys. IsPrimary t (Number value long ∷ xs) ys) 20 ts (primary.Number false value long) ts
+    Part (Numbered value long) 20 ts (primary.Number false value long) ts
 number_read h = record { found = number h; only = λ v ws d s. number_only d; within = omega arith }
 
 negative_only : {value : ℕ} {long : Bool} {us ws : List Terminal} {v : PrimaryTree} → IsPrimary v (Fixed k.Minus ∷ Number value long ∷ us) ws →
@@ -30,9 +30,9 @@ negative_only : {value : ℕ} {long : Bool} {us ws : List Terminal} {v : Primary
 negative_only negative_number = (refl, refl)
 
 pub negative_read : {value : ℕ} {long : Bool} {ts us : List Terminal} → ts ≡ Number value long ∷ us →
-    Part (λ t xs ys. IsPrimary t (Fixed k.Minus ∷ xs) ys) 20 ts (primary.Number true value long) us
+    Part (Keyed k.Minus) 20 ts (primary.Number true value long) us
 negative_read {value = value} {long = long} {us = us} e =
-    subst (λ x. Part (λ t xs ys. IsPrimary t (Fixed k.Minus ∷ xs) ys) 20 x (primary.Number true value long) us) (sym e)
+    subst (λ x. Part (Keyed k.Minus) 20 x (primary.Number true value long) us) (sym e)
     (record { found = negative_number; only = λ v ws d s. negative_only d; within = omega arith })
 
 -- constants
@@ -47,19 +47,19 @@ literal_read {text = text} {us = us} e =
 true_only : {ts ws : List Terminal} {v : PrimaryTree} → IsPrimary v (Fixed k.True ∷ ts) ws → (primary.Boolean true ≡ v) × (ts ≡ ws)
 true_only is_true = (refl, refl)
 
-pub true_read : {ts : List Terminal} → Part (λ t xs ys. IsPrimary t (Fixed k.True ∷ xs) ys) 20 ts (primary.Boolean true) ts
+pub true_read : {ts : List Terminal} → Part (Keyed k.True) 20 ts (primary.Boolean true) ts
 true_read = record { found = is_true; only = λ v ws d s. true_only d; within = omega arith }
 
 false_only : {ts ws : List Terminal} {v : PrimaryTree} → IsPrimary v (Fixed k.False ∷ ts) ws → (primary.Boolean false ≡ v) × (ts ≡ ws)
 false_only is_false = (refl, refl)
 
-pub false_read : {ts : List Terminal} → Part (λ t xs ys. IsPrimary t (Fixed k.False ∷ xs) ys) 20 ts (primary.Boolean false) ts
+pub false_read : {ts : List Terminal} → Part (Keyed k.False) 20 ts (primary.Boolean false) ts
 false_read = record { found = is_false; only = λ v ws d s. false_only d; within = omega arith }
 
 null_only : {ts ws : List Terminal} {v : PrimaryTree} → IsPrimary v (Fixed k.Null ∷ ts) ws → (primary.Null ≡ v) × (ts ≡ ws)
 null_only null = (refl, refl)
 
-pub null_read : {ts : List Terminal} → Part (λ t xs ys. IsPrimary t (Fixed k.Null ∷ xs) ys) 20 ts primary.Null ts
+pub null_read : {ts : List Terminal} → Part (Keyed k.Null) 20 ts primary.Null ts
 null_read = record { found = null; only = λ v ws d s. null_only d; within = omega arith }
 
 -- ( or )
@@ -68,7 +68,7 @@ paren_only : {ts rest left ws : List Terminal} {value : OrTree} {v : PrimaryTree
 paren_only r e (paren d) = let p = r.only _ _ d (lit< tt) in (cc, cc)
 
 pub paren_read : {ts rest left : List Terminal} {value : OrTree} → Read IsOr 14 ts value rest → rest ≡ Fixed k.Close ∷ left →
-    Part (λ t xs ys. IsPrimary t (Fixed k.Open ∷ xs) ys) 20 ts (primary.Paren value) left
+    Part (Keyed k.Open) 20 ts (primary.Paren value) left
 paren_read {ts = ts} {value = value} r e = record {
   found = paren (subst (λ x. IsOr value ts x) e r.found);
   only = λ v ws d s. paren_only r e d;
@@ -80,7 +80,7 @@ paren_open : {ts rest ws : List Terminal} {value : OrTree} {v : PrimaryTree} →
 paren_open r n (paren d) = n _ ((r.only _ _ d (lit< tt)).1)
 
 pub paren_unclosed : {ts rest : List Terminal} {value : OrTree} → Read IsOr 14 ts value rest → ((us : List Terminal) → rest ≡ Fixed k.Close ∷ us → ⊥) →
-    Refuses (λ t xs ys. IsPrimary t (Fixed k.Open ∷ xs) ys) 20 ts
+    Refuses (Keyed k.Open) 20 ts
 paren_unclosed r n = λ v ws d s. paren_open r n d
 
 -- AS type )
@@ -137,9 +137,9 @@ cast_found d (as_type o) = cast d o
 
 pub cast_read : {ts inside rest left : List Terminal} {kind : SqlType} {value : OrTree} → ts ≡ Fixed k.Open ∷ inside → Read IsOr 14 inside value rest →
     IsAsType kind rest left →
-    Part (λ t xs ys. IsPrimary t (Fixed k.Cast ∷ xs) ys) 20 ts (primary.Cast value kind) left
+    Part (Keyed k.Cast) 20 ts (primary.Cast value kind) left
 cast_read {inside = inside} {left = left} {kind = kind} {value = value} b r a =
-    subst (λ x. Part (λ t xs ys. IsPrimary t (Fixed k.Cast ∷ xs) ys) 20 x (primary.Cast value kind) left) (sym b) (record {
+    subst (λ x. Part (Keyed k.Cast) 20 x (primary.Cast value kind) left) (sym b) (record {
       found = cast_found r.found a;
       only = λ v ws d s. cast_only r a d;
       within = let x = r.shorter in let y = as_type_shorter a in omega arith;
@@ -150,8 +150,8 @@ cast_open : {inside rest ws : List Terminal} {value : OrTree} {v : PrimaryTree} 
 cast_open r n (cast d i) = n _ _ (at_type ((r.only _ _ d (lit< tt)).1) (as_type i))
 
 pub cast_untyped : {ts inside rest : List Terminal} {value : OrTree} → ts ≡ Fixed k.Open ∷ inside → Read IsOr 14 inside value rest →
-    Never IsAsType rest → Refuses (λ t xs ys. IsPrimary t (Fixed k.Cast ∷ xs) ys) 20 ts
-cast_untyped b r n = subst (λ x. Refuses (λ t xs ys. IsPrimary t (Fixed k.Cast ∷ xs) ys) 20 x) (sym b) (λ v ws d s. cast_open r n d)
+    Never IsAsType rest → Refuses (Keyed k.Cast) 20 ts
+cast_untyped b r n = subst (λ x. Refuses (Keyed k.Cast) 20 x) (sym b) (λ v ws d s. cast_open r n d)
 
 -- name . name
 dotted_only : {text name : List ℕ} {quoted other : Bool} {left ws : List Terminal} {v : PrimaryTree} →
@@ -160,19 +160,19 @@ dotted_only column s = absurd (omega arith)
 dotted_only table_column s = (refl, refl)
 
 pub dotted_read : {text name : List ℕ} {quoted other : Bool} {ts left : List Terminal} → ts ≡ Name name other ∷ left →
-    Part (λ t xs ys. IsPrimary t (Name text quoted ∷ Fixed k.Dot ∷ xs) ys) 20 ts (primary.TableColumn text name) left
+    Part (Dotted text quoted) 20 ts (primary.TableColumn text name) left
 dotted_read {text = text} {name = name} {quoted = quoted} {left = left} e =
-    subst (λ x. Part (λ t xs ys. IsPrimary t (Name text quoted ∷ Fixed k.Dot ∷ xs) ys) 20 x (primary.TableColumn text name) left) (sym e)
+    subst (λ x. Part (Dotted text quoted) 20 x (primary.TableColumn text name) left) (sym e)
     (record { found = table_column; only = λ v ws d s. dotted_only d s; within = omega arith })
 
 no_column : {text : List ℕ} {quoted : Bool} {ts ws : List Terminal} {v : PrimaryTree} →
-    ((name : List ℕ) (other : Bool) (us : List Terminal) → ts ≡ Name name other ∷ us → ⊥) →
+    NoName ts →
     IsPrimary v (Name text quoted ∷ Fixed k.Dot ∷ ts) ws → Stops 20 ws → ⊥
 no_column n column s = omega arith
 no_column n table_column s = n _ _ _ refl
 
-pub dotted_refused : {text : List ℕ} {quoted : Bool} {ts : List Terminal} → ((name : List ℕ) (other : Bool) (us : List Terminal) → ts ≡ Name name other ∷ us → ⊥) →
-    Refuses (λ t xs ys. IsPrimary t (Name text quoted ∷ Fixed k.Dot ∷ xs) ys) 20 ts
+pub dotted_refused : {text : List ℕ} {quoted : Bool} {ts : List Terminal} → NoName ts →
+    Refuses (Dotted text quoted) 20 ts
 dotted_refused n = λ v ws d s. no_column n d s
 
 -- name
@@ -186,7 +186,7 @@ column_only n m (call d) = absurd (m _ refl)
 
 pub column_read : {text : List ℕ} {quoted : Bool} {ts : List Terminal} →
     ((us : List Terminal) → ts ≡ Fixed k.Dot ∷ us → ⊥) → ((us : List Terminal) → ts ≡ Fixed k.Open ∷ us → ⊥) →
-    Part (λ t xs ys. IsPrimary t (Name text quoted ∷ xs) ys) 20 ts (primary.Column text) ts
+    Part (Named text quoted) 20 ts (primary.Column text) ts
 column_read n m = record { found = column; only = λ v ws d s. column_only n m d; within = omega arith }
 
 -- count ( * )
@@ -197,9 +197,9 @@ all_only (count_all e) s = (refl, refl)
 all_only (call d) s = absurd (no_star d)
 
 pub all_read : {text : List ℕ} {quoted : Bool} {ts left : List Terminal} → is_word count_word text ≡ true → ts ≡ Fixed k.Close ∷ left →
-    Part (λ t xs ys. IsPrimary t (Name text quoted ∷ Fixed k.Open ∷ Fixed k.Star ∷ xs) ys) 20 ts primary.CountAll left
+    Part (Counted text quoted) 20 ts primary.CountAll left
 all_read {text = text} {quoted = quoted} {left = left} w e =
-    subst (λ x. Part (λ t xs ys. IsPrimary t (Name text quoted ∷ Fixed k.Open ∷ Fixed k.Star ∷ xs) ys) 20 x primary.CountAll left) (sym e)
+    subst (λ x. Part (Counted text quoted) 20 x primary.CountAll left) (sym e)
     (record { found = count_all w; only = λ v ws d s. all_only d s; within = omega arith })
 
 no_all : {text : List ℕ} {quoted : Bool} {ts ws : List Terminal} {v : PrimaryTree} → ((us : List Terminal) → ts ≡ Fixed k.Close ∷ us → ⊥) →
@@ -209,12 +209,12 @@ no_all n (count_all e) s = n _ refl
 no_all n (call d) s = no_star d
 
 pub all_refused : {text : List ℕ} {quoted : Bool} {ts : List Terminal} → ((us : List Terminal) → ts ≡ Fixed k.Close ∷ us → ⊥) →
-    Refuses (λ t xs ys. IsPrimary t (Name text quoted ∷ Fixed k.Open ∷ Fixed k.Star ∷ xs) ys) 20 ts
+    Refuses (Counted text quoted) 20 ts
 all_refused n = λ v ws d s. no_all n d s
 
 -- name ( or {, or} )
 call_only : {text : List ℕ} {quoted : Bool} {ts rest left ws : List Terminal} {arguments : List OrTree} {v : PrimaryTree} →
-    ((us : List Terminal) → is_word count_word text ≡ true → ts ≡ Fixed k.Star ∷ us → ⊥) →
+    NoStar text ts →
     Read IsList 9 ts arguments rest → rest ≡ Fixed k.Close ∷ left →
     IsPrimary v (Name text quoted ∷ Fixed k.Open ∷ ts) ws → Stops 20 ws → (primary.Call text arguments ≡ v) × (left ≡ ws)
 call_only n r e column s = absurd (omega arith)
@@ -222,9 +222,9 @@ call_only n r e (count_all w) s = absurd (n _ w refl)
 call_only n r e (call d) s = let p = r.only _ _ d (lit< tt) in (cc, cc)
 
 pub call_read : {text : List ℕ} {quoted : Bool} {ts rest left : List Terminal} {arguments : List OrTree} →
-    ((us : List Terminal) → is_word count_word text ≡ true → ts ≡ Fixed k.Star ∷ us → ⊥) →
+    NoStar text ts →
     Read IsList 9 ts arguments rest → rest ≡ Fixed k.Close ∷ left →
-    Part (λ t xs ys. IsPrimary t (Name text quoted ∷ Fixed k.Open ∷ xs) ys) 20 ts (primary.Call text arguments) left
+    Part (Called text quoted) 20 ts (primary.Call text arguments) left
 call_read {ts = ts} {arguments = arguments} n r e = record {
   found = call (subst (λ x. IsList arguments ts x) e r.found);
   only = λ v ws d s. call_only n r e d s;
@@ -232,7 +232,7 @@ call_read {ts = ts} {arguments = arguments} n r e = record {
 }
 
 call_open : {text : List ℕ} {quoted : Bool} {ts rest ws : List Terminal} {arguments : List OrTree} {v : PrimaryTree} →
-    ((us : List Terminal) → is_word count_word text ≡ true → ts ≡ Fixed k.Star ∷ us → ⊥) →
+    NoStar text ts →
     Read IsList 9 ts arguments rest → ((us : List Terminal) → rest ≡ Fixed k.Close ∷ us → ⊥) →
     IsPrimary v (Name text quoted ∷ Fixed k.Open ∷ ts) ws → Stops 20 ws → ⊥
 call_open n r m column s = omega arith
@@ -240,21 +240,21 @@ call_open n r m (count_all w) s = n _ w refl
 call_open n r m (call d) s = m _ ((r.only _ _ d (lit< tt)).1)
 
 pub call_unclosed : {text : List ℕ} {quoted : Bool} {ts rest : List Terminal} {arguments : List OrTree} →
-    ((us : List Terminal) → is_word count_word text ≡ true → ts ≡ Fixed k.Star ∷ us → ⊥) →
+    NoStar text ts →
     Read IsList 9 ts arguments rest → ((us : List Terminal) → rest ≡ Fixed k.Close ∷ us → ⊥) →
-    Refuses (λ t xs ys. IsPrimary t (Name text quoted ∷ Fixed k.Open ∷ xs) ys) 20 ts
+    Refuses (Called text quoted) 20 ts
 call_unclosed n r m = λ v ws d s. call_open n r m d s
 
 call_empty : {text : List ℕ} {quoted : Bool} {ts ws : List Terminal} {v : PrimaryTree} →
-    ((us : List Terminal) → is_word count_word text ≡ true → ts ≡ Fixed k.Star ∷ us → ⊥) →
+    NoStar text ts →
     Refuses IsList 9 ts → IsPrimary v (Name text quoted ∷ Fixed k.Open ∷ ts) ws → Stops 20 ws → ⊥
 call_empty n m column s = omega arith
 call_empty n m (count_all w) s = n _ w refl
 call_empty n m (call d) s = m _ _ d (lit< tt)
 
 pub call_refused : {text : List ℕ} {quoted : Bool} {ts : List Terminal} →
-    ((us : List Terminal) → is_word count_word text ≡ true → ts ≡ Fixed k.Star ∷ us → ⊥) →
-    Refuses IsList 9 ts → Refuses (λ t xs ys. IsPrimary t (Name text quoted ∷ Fixed k.Open ∷ xs) ys) 20 ts
+    NoStar text ts →
+    Refuses IsList 9 ts → Refuses (Called text quoted) 20 ts
 call_refused n m = λ v ws d s. call_empty n m d s
 
 -- words and symbols that begin no operand
@@ -270,5 +270,5 @@ unkeyed a b c d e f g (case x) = g refl
 unkeyed a b c d e f g (case_of x y) = g refl
 
 pub keyed_refused : {key : Key} {ts : List Terminal} → (key ≡ k.True → ⊥) → (key ≡ k.False → ⊥) → (key ≡ k.Null → ⊥) → (key ≡ k.Minus → ⊥) →
-    (key ≡ k.Open → ⊥) → (key ≡ k.Cast → ⊥) → (key ≡ k.Case → ⊥) → Refuses (λ t xs ys. IsPrimary t (Fixed key ∷ xs) ys) 20 ts
+    (key ≡ k.Open → ⊥) → (key ≡ k.Cast → ⊥) → (key ≡ k.Case → ⊥) → Refuses (Keyed key) 20 ts
 keyed_refused a b c d e f g = λ v ws x s. unkeyed a b c d e f g x

@@ -17,7 +17,7 @@ use Rattle.aqe_trees.specs.Follow.{binds_at, Stops}
 use Rattle.aqe_trees.specs.Expressions.{IsPredicate, predicate_of, IsTest, plain, between, not_between, one_of, not_one_of, like, not_like, is_truth, is_not_truth, IsList, IsComparison}
 use Rattle.aqe_trees.proofs.OneExpression.{test_stop, at_test, at_comparison}
 use Rattle.aqe_reader.specs.Reading.{Read, Part, Refuses}
-use Rattle.aqe_reader.specs.Steps.{told, Told}
+use Rattle.aqe_reader.specs.Steps.{told, Told, Asked}
 
 -- NOT
 pub told_is : {ts : List Terminal} (b : Bool) (rest : List Terminal) → Told ts b rest → ts ≡ told b rest
@@ -30,7 +30,7 @@ told_within false ts rest e = let a = ap length e.0 in omega arith
 
 -- a test behind [NOT] and its first word
 pub told_part : {ts rest after us : List Terminal} {key : Key} {t : Test} (b : Bool) → Told ts b rest → rest ≡ Fixed key ∷ after →
-    Read (λ v xs ys. IsTest v (told b (Fixed key ∷ xs)) ys) 16 after t us → Part IsTest 16 ts t us
+    Read (Asked b key) 16 after t us → Part IsTest 16 ts t us
 told_part {ts = ts} {us = us} {t = t} b e f r =
     let h : ts ≡ told b (Fixed _ ∷ _) = subst (λ x. ts ≡ told b x) f (told_is b _ e) in
     record {
@@ -40,7 +40,7 @@ told_part {ts = ts} {us = us} {t = t} b e f r =
     }
 
 pub told_refused : {ts rest after : List Terminal} {key : Key} (b : Bool) → Told ts b rest → rest ≡ Fixed key ∷ after →
-    Refuses (λ v xs ys. IsTest v (told b (Fixed key ∷ xs)) ys) 16 after → Refuses IsTest 16 ts
+    Refuses (Asked b key) 16 after → Refuses IsTest 16 ts
 told_refused {ts = ts} b e f n =
     let h : ts ≡ told b (Fixed _ ∷ _) = subst (λ x. ts ≡ told b x) f (told_is b _ e) in
     λ v ws d s. n v ws (subst (λ x. IsTest v x ws) h d) s
@@ -65,7 +65,7 @@ between_found false d f = between d f
 between_found true d f = not_between d f
 
 pub between_read : (b : Bool) {ts rest after left : List Terminal} {low high : ComparisonTree} → Read IsComparison 17 ts low rest → rest ≡ Fixed k.And ∷ after →
-    Read IsComparison 17 after high left → Read (λ v xs ys. IsTest v (told b (Fixed k.Between ∷ xs)) ys) 16 ts (test.Between b low high) left
+    Read IsComparison 17 after high left → Read (Asked b k.Between) 16 ts (test.Between b low high) left
 between_read b {ts = ts} {low = low} r e g = record {
   found = between_found b (subst (λ x. IsComparison low ts x) e r.found) g.found;
   only = λ v ws d s. between_only b r e g d s;
@@ -80,7 +80,7 @@ no_and true r n plain s = omega arith
 no_and true r n (not_between d f) s = n _ ((r.only _ _ d (lit< tt)).1)
 
 pub between_cut : (b : Bool) {ts rest : List Terminal} {low : ComparisonTree} → Read IsComparison 17 ts low rest → ((us : List Terminal) → rest ≡ Fixed k.And ∷ us → ⊥) →
-    Refuses (λ v xs ys. IsTest v (told b (Fixed k.Between ∷ xs)) ys) 16 ts
+    Refuses (Asked b k.Between) 16 ts
 between_cut b r n = λ v ws d s. no_and b r n d s
 
 no_high : (b : Bool) {ts rest after ws : List Terminal} {low : ComparisonTree} {v : Test} → Read IsComparison 17 ts low rest → rest ≡ Fixed k.And ∷ after →
@@ -91,7 +91,7 @@ no_high true r e n plain s = omega arith
 no_high true r e n (not_between d f) s = let p = r.only _ _ d (lit< tt) in n _ _ (at_comparison (cc) f) (omega arith)
 
 pub between_high : (b : Bool) {ts rest after : List Terminal} {low : ComparisonTree} → Read IsComparison 17 ts low rest → rest ≡ Fixed k.And ∷ after →
-    Refuses IsComparison 17 after → Refuses (λ v xs ys. IsTest v (told b (Fixed k.Between ∷ xs)) ys) 16 ts
+    Refuses IsComparison 17 after → Refuses (Asked b k.Between) 16 ts
 between_high b r e n = λ v ws d s. no_high b r e n d s
 
 no_low : (b : Bool) {ts ws : List Terminal} {v : Test} → Refuses IsComparison 17 ts → IsTest v (told b (Fixed k.Between ∷ ts)) ws → Stops 16 ws → ⊥
@@ -100,7 +100,7 @@ no_low false n (between d f) s = n _ _ d (lit< tt)
 no_low true n plain s = omega arith
 no_low true n (not_between d f) s = n _ _ d (lit< tt)
 
-pub between_low : (b : Bool) {ts : List Terminal} → Refuses IsComparison 17 ts → Refuses (λ v xs ys. IsTest v (told b (Fixed k.Between ∷ xs)) ys) 16 ts
+pub between_low : (b : Bool) {ts : List Terminal} → Refuses IsComparison 17 ts → Refuses (Asked b k.Between) 16 ts
 between_low b n = λ v ws d s. no_low b n d s
 
 -- IN
@@ -117,9 +117,9 @@ one_of_found false d = one_of d
 one_of_found true d = not_one_of d
 
 pub one_of_read : (b : Bool) {ts inside rest left : List Terminal} {items : List OrTree} → ts ≡ Fixed k.Open ∷ inside → Read IsList 9 inside items rest →
-    rest ≡ Fixed k.Close ∷ left → Read (λ v xs ys. IsTest v (told b (Fixed k.In ∷ xs)) ys) 16 ts (test.OneOf b items) left
+    rest ≡ Fixed k.Close ∷ left → Read (Asked b k.In) 16 ts (test.OneOf b items) left
 one_of_read b {inside = inside} {left = left} {items = items} o r e =
-    subst (λ x. Read (λ v xs ys. IsTest v (told b (Fixed k.In ∷ xs)) ys) 16 x (test.OneOf b items) left) (sym o) (record {
+    subst (λ x. Read (Asked b k.In) 16 x (test.OneOf b items) left) (sym o) (record {
       found = one_of_found b (subst (λ x. IsList items inside x) e r.found);
       only = λ v ws d s. one_of_only b r e d s;
       shorter = let x = r.shorter in let z = ap length e in omega arith;
@@ -133,8 +133,8 @@ no_close true r n plain s = omega arith
 no_close true r n (not_one_of d) s = n _ ((r.only _ _ d (lit< tt)).1)
 
 pub one_of_unclosed : (b : Bool) {ts inside rest : List Terminal} {items : List OrTree} → ts ≡ Fixed k.Open ∷ inside → Read IsList 9 inside items rest →
-    ((us : List Terminal) → rest ≡ Fixed k.Close ∷ us → ⊥) → Refuses (λ v xs ys. IsTest v (told b (Fixed k.In ∷ xs)) ys) 16 ts
-one_of_unclosed b o r n = subst (λ x. Refuses (λ v xs ys. IsTest v (told b (Fixed k.In ∷ xs)) ys) 16 x) (sym o) (λ v ws d s. no_close b r n d s)
+    ((us : List Terminal) → rest ≡ Fixed k.Close ∷ us → ⊥) → Refuses (Asked b k.In) 16 ts
+one_of_unclosed b o r n = subst (λ x. Refuses (Asked b k.In) 16 x) (sym o) (λ v ws d s. no_close b r n d s)
 
 no_items : (b : Bool) {inside ws : List Terminal} {v : Test} → Refuses IsList 9 inside → IsTest v (told b (Fixed k.In ∷ Fixed k.Open ∷ inside)) ws → Stops 16 ws → ⊥
 no_items false n plain s = omega arith
@@ -143,8 +143,8 @@ no_items true n plain s = omega arith
 no_items true n (not_one_of d) s = n _ _ d (lit< tt)
 
 pub one_of_empty : (b : Bool) {ts inside : List Terminal} → ts ≡ Fixed k.Open ∷ inside → Refuses IsList 9 inside →
-    Refuses (λ v xs ys. IsTest v (told b (Fixed k.In ∷ xs)) ys) 16 ts
-one_of_empty b o n = subst (λ x. Refuses (λ v xs ys. IsTest v (told b (Fixed k.In ∷ xs)) ys) 16 x) (sym o) (λ v ws d s. no_items b n d s)
+    Refuses (Asked b k.In) 16 ts
+one_of_empty b o n = subst (λ x. Refuses (Asked b k.In) 16 x) (sym o) (λ v ws d s. no_items b n d s)
 
 no_open : (b : Bool) {ts ws : List Terminal} {v : Test} → ((us : List Terminal) → ts ≡ Fixed k.Open ∷ us → ⊥) →
     IsTest v (told b (Fixed k.In ∷ ts)) ws → Stops 16 ws → ⊥
@@ -154,7 +154,7 @@ no_open true n plain s = omega arith
 no_open true n (not_one_of d) s = n _ refl
 
 pub one_of_unopened : (b : Bool) {ts : List Terminal} → ((us : List Terminal) → ts ≡ Fixed k.Open ∷ us → ⊥) →
-    Refuses (λ v xs ys. IsTest v (told b (Fixed k.In ∷ xs)) ys) 16 ts
+    Refuses (Asked b k.In) 16 ts
 one_of_unopened b n = λ v ws d s. no_open b n d s
 
 -- LIKE
@@ -170,7 +170,7 @@ like_found false d = like d
 like_found true d = not_like d
 
 pub like_read : (b : Bool) {ts left : List Terminal} {pattern : ComparisonTree} → Read IsComparison 17 ts pattern left →
-    Read (λ v xs ys. IsTest v (told b (Fixed k.Like ∷ xs)) ys) 16 ts (test.Like b pattern) left
+    Read (Asked b k.Like) 16 ts (test.Like b pattern) left
 like_read b r = record { found = like_found b r.found; only = λ v ws d s. like_only b r d s; shorter = r.shorter }
 
 no_pattern : (b : Bool) {ts ws : List Terminal} {v : Test} → Refuses IsComparison 17 ts → IsTest v (told b (Fixed k.Like ∷ ts)) ws → Stops 16 ws → ⊥
@@ -179,7 +179,7 @@ no_pattern false n (like d) s = n _ _ d (omega arith)
 no_pattern true n plain s = omega arith
 no_pattern true n (not_like d) s = n _ _ d (omega arith)
 
-pub like_refused : (b : Bool) {ts : List Terminal} → Refuses IsComparison 17 ts → Refuses (λ v xs ys. IsTest v (told b (Fixed k.Like ∷ xs)) ys) 16 ts
+pub like_refused : (b : Bool) {ts : List Terminal} → Refuses IsComparison 17 ts → Refuses (Asked b k.Like) 16 ts
 like_refused b n = λ v ws d s. no_pattern b n d s
 
 -- IS
@@ -197,7 +197,7 @@ is_found false t o = is_truth o
 is_found true t o = is_not_truth o
 
 pub is_read : (b : Bool) {ts rest left : List Terminal} {t : Terminal} {truth : Truth} → Told ts b rest → rest ≡ t ∷ left → truth_of t ≡ Some truth →
-    Read (λ v xs ys. IsTest v (Fixed k.Is ∷ xs) ys) 16 ts (test.Is b truth) left
+    Read (Asked false k.Is) 16 ts (test.Is b truth) left
 is_read b {ts = ts} {left = left} {truth = truth} e f o =
     let h : ts ≡ told b (_ ∷ left) = subst (λ x. ts ≡ told b x) f (told_is b _ e) in
     record {
@@ -215,7 +215,7 @@ no_truth false e n (is_not_truth i) s = e.1 _ refl
 no_truth true e n (is_not_truth {t = t} {us = us} i) s = let m : truth_of t ≡ None = n t us (cc) in cc
 
 pub is_refused : (b : Bool) {ts rest : List Terminal} → Told ts b rest → ((t : Terminal) (us : List Terminal) → rest ≡ t ∷ us → truth_of t ≡ None) →
-    Refuses (λ v xs ys. IsTest v (Fixed k.Is ∷ xs) ys) 16 ts
+    Refuses (Asked false k.Is) 16 ts
 is_refused b e n = λ v ws d s. no_truth b e n d s
 
 -- no test

@@ -1,8 +1,9 @@
 -- What it means that a reader took a tree from the front of the terminals, or found none there.
 --
 -- `Is` is a rule of the grammar: `Is tree ts us` says that ts begins with a spelling of the tree and that us is left.
-use Rattle.std.specs.Prelude.{ℕ, List, ◌≡◌, ◌≤◌, ◌<◌, length}
+use Rattle.std.specs.Prelude.{ℕ, List, ◌∷◌, Bool, ◌≡◌, ◌≤◌, ◌<◌, length}
 use Rattle.aqe_trees.specs.declared.terminal.Terminal.{Terminal}
+use Rattle.aqe_trees.specs.declared.terminal.Terminal.TheVariants.{Name}
 use Rattle.aqe_trees.specs.Follow.{Stops}
 use Rattle.aqe_reader.specs.declared.fault.ReadFault.{ReadFault}
 use Rattle.aqe_reader.specs.declared.fault.ReadFault.TheVariants.{Refused, Memory}
@@ -37,3 +38,7 @@ Never {T = T} Is ts = (v : T) (ws : List Terminal) → Is v ts ws → ⊥
 abbrev pub IsRefusal : ReadFault → Type 0
 IsRefusal (Refused left) = Unit {0}
 IsRefusal Memory = ⊥
+
+-- no name comes first
+abbrev pub NoName : List Terminal → Type 0
+NoName ts = (text : List ℕ) (quoted : Bool) (us : List Terminal) → ts ≡ Name text quoted ∷ us → ⊥

@@ -1,17 +1,19 @@
 -- What the readers of parts leave behind.
-use Rattle.std.specs.Prelude.{ℕ, List, ◌∷◌, ◌++◌, ◌+◌, ◌≤◌, ◌≡◌, Bool, true, false, Option, Some, None, length}
+use Rattle.std.specs.Prelude.{ℕ, List, [], ◌∷◌, ◌++◌, ◌+◌, ◌≤◌, ◌≡◌, Bool, true, false, Option, Some, None, length}
 use Rattle.aqe_values.specs.declared.sql_type.SqlType.{SqlType}
+use Rattle.aqe_trees.specs.declared.terminal.Key.{Key}
 use Rattle.aqe_trees.specs.declared.terminal.Key.TheVariants as k
 use Rattle.aqe_trees.specs.declared.terminal.Terminal.{Terminal}
-use Rattle.aqe_trees.specs.declared.terminal.Terminal.TheVariants.{Fixed}
+use Rattle.aqe_trees.specs.declared.terminal.Terminal.TheVariants.{Fixed, Name, Number}
 use Rattle.aqe_trees.specs.declared.expression.OrTree.{OrTree}
 use Rattle.aqe_trees.specs.declared.expression.PredicateTree.{PredicateTree}
+use Rattle.aqe_trees.specs.declared.expression.Test.{Test}
 use Rattle.aqe_trees.specs.declared.expression.PrimaryTree.{PrimaryTree}
 use Rattle.aqe_trees.specs.declared.expression.Sign.{Sign}
 use Rattle.aqe_trees.specs.declared.expression.Arm.{Arm}
 use Rattle.aqe_trees.specs.Shapes.{arm}
-use Rattle.aqe_trees.specs.Words.{type_of}
-use Rattle.aqe_trees.specs.Expressions.{IsOr, IsNots, IsSigns, IsArms}
+use Rattle.aqe_trees.specs.Words.{type_of, is_word, count_word}
+use Rattle.aqe_trees.specs.Expressions.{IsOr, IsNots, IsSigns, IsArms, IsPrimary, IsTest}
 
 -- count NOTs stand before rest
 pub record NotsLeft (ts rest : List Terminal) (count : ℕ) : Type 0 where
@@ -53,3 +55,39 @@ pub data IsArm : Arm → List Terminal → List Terminal → Type 0 where
 -- {WHEN or THEN or} [ELSE or] END
 abbrev pub IsBranches : List Arm × Option OrTree → List Terminal → List Terminal → Type 0
 IsBranches t ts us = IsArms t.0 t.1 ts us
+
+-- [ELSE or] END
+abbrev pub IsEnding : Option OrTree → List Terminal → List Terminal → Type 0
+IsEnding t ts us = IsArms [] t ts us
+
+-- what is asked of a value, by what stands behind its first word, which NOT may precede
+abbrev pub Asked : Bool → Key → Test → List Terminal → List Terminal → Type 0
+Asked negated key t ts us = IsTest t (told negated (Fixed key ∷ ts)) us
+
+-- an operand, by what stands behind its first word or symbol
+abbrev pub Keyed : Key → PrimaryTree → List Terminal → List Terminal → Type 0
+Keyed key t ts us = IsPrimary t (Fixed key ∷ ts) us
+
+-- an operand, by what stands behind the number that it begins with
+abbrev pub Numbered : ℕ → Bool → PrimaryTree → List Terminal → List Terminal → Type 0
+Numbered value long t ts us = IsPrimary t (Number value long ∷ ts) us
+
+-- an operand, by what stands behind the name that it begins with
+abbrev pub Named : List ℕ → Bool → PrimaryTree → List Terminal → List Terminal → Type 0
+Named text quoted t ts us = IsPrimary t (Name text quoted ∷ ts) us
+
+-- an operand, by what stands behind its name and a point
+abbrev pub Dotted : List ℕ → Bool → PrimaryTree → List Terminal → List Terminal → Type 0
+Dotted text quoted t ts us = IsPrimary t (Name text quoted ∷ Fixed k.Dot ∷ ts) us
+
+-- an operand, by what stands behind its name and `(`
+abbrev pub Called : List ℕ → Bool → PrimaryTree → List Terminal → List Terminal → Type 0
+Called text quoted t ts us = IsPrimary t (Name text quoted ∷ Fixed k.Open ∷ ts) us
+
+-- an operand, by what stands behind its name, `(` and `*`
+abbrev pub Counted : List ℕ → Bool → PrimaryTree → List Terminal → List Terminal → Type 0
+Counted text quoted t ts us = IsPrimary t (Name text quoted ∷ Fixed k.Open ∷ Fixed k.Star ∷ ts) us
+
+-- no `*` comes first, or the function is not `count`
+abbrev pub NoStar : List ℕ → List Terminal → Type 0
+NoStar name ts = (us : List Terminal) → is_word count_word name ≡ true → ts ≡ Fixed k.Star ∷ us → ⊥

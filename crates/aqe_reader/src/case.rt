@@ -1,12 +1,12 @@
 //! CASE.
 
-ghost use Rattle.std.specs.Prelude.{◌≡◌, ◌∷◌, ◌<◌, ◌≤◌, [], length, MatchResult};
+ghost use Rattle.std.specs.Prelude.{◌≡◌, ◌∷◌, ◌<◌, ◌≤◌, length, MatchResult};
 ghost use Rattle.aqe_trees.specs.declared.terminal.Key.TheVariants as k;
 ghost use Rattle.aqe_trees.specs.declared.terminal.Terminal.TheVariants.{Fixed};
-ghost use Rattle.aqe_trees.specs.Expressions.{IsOr, IsPrimary, IsArms};
+ghost use Rattle.aqe_trees.specs.Expressions.{IsOr};
 ghost use Rattle.aqe_reader.specs.Reading.{Read, Part, Taken, Refuses, Never, IsRefusal};
 ghost use Rattle.aqe_reader.specs.Nesting.{Nests};
-ghost use Rattle.aqe_reader.specs.Steps.{IsOperand, IsArm, IsBranches};
+ghost use Rattle.aqe_reader.specs.Steps.{IsOperand, IsArm, IsBranches, IsEnding, Keyed};
 
 use crate::ReadFault;
 use crate::boxes::arm_of;
@@ -26,8 +26,8 @@ where
     requires nests { Nests F.Fn nest.now.read nest.now.room }
     requires room { length terminals.now < nest.now.room }
     ensures { MatchResult result
-        (λ x. Part (λ t ts us. IsPrimary t (Fixed k.Case ∷ ts) us) 20 terminals.now x.0 x.1.now)
-        (λ e. IsRefusal e → Refuses (λ t ts us. IsPrimary t (Fixed k.Case ∷ ts) us) 20 terminals.now) }
+        (λ x. Part (Keyed k.Case) 20 terminals.now x.0 x.1.now)
+        (λ e. IsRefusal e → Refuses (Keyed k.Case) 20 terminals.now) }
 {
     let (operand, rest) = operand(nest, terminals)?;
     let (operand, after) = beside(operand, expect(rest, Key::When))?;
@@ -105,8 +105,8 @@ where
     requires nests { Nests F.Fn nest.now.read nest.now.room }
     requires room { length terminals.now < nest.now.room }
     ensures { MatchResult result
-        (λ x. Taken (λ t ts us. IsArms [] t ts us) terminals.now x.0 x.1.now)
-        (λ e. IsRefusal e → Never (λ t ts us. IsArms [] t ts us) terminals.now) }
+        (λ x. Taken IsEnding terminals.now x.0 x.1.now)
+        (λ e. IsRefusal e → Never IsEnding terminals.now) }
 {
     if let Some(left) = eat(terminals, Key::End) {
         return Ok((None, left));

@@ -2,7 +2,7 @@
 
 ghost use Rattle.std.specs.Prelude.{◌≡◌, ◌∷◌, [], MatchOption, MatchResult};
 ghost use Rattle.aqe_trees.specs.declared.terminal.Terminal;
-ghost use Rattle.aqe_reader.specs.Reading.{IsRefusal};
+ghost use Rattle.aqe_reader.specs.Reading.{IsRefusal, NoName};
 
 use crate::ReadFault;
 use aqe_trees::{Key, Terminal};
@@ -45,7 +45,7 @@ pub fn expect(terminals: &[Terminal], wanted: Key) -> Result<&[Terminal], ReadFa
 /// The name that comes first, whether it stood between backquotes, and what stands behind it.
 pub fn name(terminals: &[Terminal]) -> Option<(&Text, bool, &[Terminal])>
     ensures { MatchOption result
-        ((text : _) (quoted : _) (us : _) → terminals.now ≡ Terminal.Name text quoted ∷ us → ⊥)
+        (NoName terminals.now)
         (λ x. terminals.now ≡ Terminal.Name x.0.now x.1 ∷ x.2.now) }
 {
     match next(terminals) {

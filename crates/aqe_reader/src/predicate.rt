@@ -1,12 +1,11 @@
 //! A predicate: a value and what is asked of it.
 
-ghost use Rattle.std.specs.Prelude.{◌≡◌, ◌∷◌, ◌≤◌, length, MatchResult};
+ghost use Rattle.std.specs.Prelude.{◌≡◌, ◌≤◌, length, false, MatchResult};
 ghost use Rattle.aqe_trees.specs.declared.terminal.Key.TheVariants as k;
-ghost use Rattle.aqe_trees.specs.declared.terminal.Terminal.TheVariants.{Fixed};
 ghost use Rattle.aqe_trees.specs.Expressions.{IsOr, IsPredicate, IsTest};
 ghost use Rattle.aqe_reader.specs.Reading.{Read, Part, Refuses, IsRefusal};
 ghost use Rattle.aqe_reader.specs.Nesting.{Nests};
-ghost use Rattle.aqe_reader.specs.Steps.{told, Told};
+ghost use Rattle.aqe_reader.specs.Steps.{Told, Asked};
 
 use crate::ReadFault;
 use crate::boxes::{between_of, like_of, one_of_list, predicate_of};
@@ -91,8 +90,8 @@ where
     requires nests { Nests F.Fn nest.now.read nest.now.room }
     requires room { length terminals.now ≤ nest.now.room }
     ensures { MatchResult result
-        (λ x. Read (λ t ts us. IsTest t (told negated (Fixed k.Between ∷ ts)) us) 16 terminals.now x.0 x.1.now)
-        (λ e. IsRefusal e → Refuses (λ t ts us. IsTest t (told negated (Fixed k.Between ∷ ts)) us) 16 terminals.now) }
+        (λ x. Read (Asked negated k.Between) 16 terminals.now x.0 x.1.now)
+        (λ e. IsRefusal e → Refuses (Asked negated k.Between) 16 terminals.now) }
 {
     let (low, rest) = comparison(nest, terminals)?;
     let (low, after) = beside(low, expect(rest, Key::And))?;
@@ -111,8 +110,8 @@ where
     requires nests { Nests F.Fn nest.now.read nest.now.room }
     requires room { length terminals.now ≤ nest.now.room }
     ensures { MatchResult result
-        (λ x. Read (λ t ts us. IsTest t (told negated (Fixed k.In ∷ ts)) us) 16 terminals.now x.0 x.1.now)
-        (λ e. IsRefusal e → Refuses (λ t ts us. IsTest t (told negated (Fixed k.In ∷ ts)) us) 16 terminals.now) }
+        (λ x. Read (Asked negated k.In) 16 terminals.now x.0 x.1.now)
+        (λ e. IsRefusal e → Refuses (Asked negated k.In) 16 terminals.now) }
 {
     let inside = expect(terminals, Key::Open)?;
     let (items, rest) = list(nest, inside)?;
@@ -131,8 +130,8 @@ where
     requires nests { Nests F.Fn nest.now.read nest.now.room }
     requires room { length terminals.now ≤ nest.now.room }
     ensures { MatchResult result
-        (λ x. Read (λ t ts us. IsTest t (told negated (Fixed k.Like ∷ ts)) us) 16 terminals.now x.0 x.1.now)
-        (λ e. IsRefusal e → Refuses (λ t ts us. IsTest t (told negated (Fixed k.Like ∷ ts)) us) 16 terminals.now) }
+        (λ x. Read (Asked negated k.Like) 16 terminals.now x.0 x.1.now)
+        (λ e. IsRefusal e → Refuses (Asked negated k.Like) 16 terminals.now) }
 {
     let (pattern, left) = comparison(nest, terminals)?;
     Ok((like_of(nest.alloc, negated, pattern)?, left))
@@ -141,8 +140,8 @@ where
 /// `[NOT] (NULL | TRUE | FALSE)`, behind IS.
 fn is(alloc: Global, terminals: &[Terminal]) -> Result<(Boxed<Test>, &[Terminal]), ReadFault>
     ensures { MatchResult result
-        (λ x. Read (λ t ts us. IsTest t (Fixed k.Is ∷ ts) us) 16 terminals.now x.0 x.1.now)
-        (λ e. IsRefusal e → Refuses (λ t ts us. IsTest t (Fixed k.Is ∷ ts) us) 16 terminals.now) }
+        (λ x. Read (Asked false k.Is) 16 terminals.now x.0 x.1.now)
+        (λ e. IsRefusal e → Refuses (Asked false k.Is) 16 terminals.now) }
 {
     let (negated, rest) = negation(terminals);
     match truth_at(rest) {

@@ -2,12 +2,11 @@
 
 ghost use Rattle.std.specs.Prelude.{◌≡◌, ◌∷◌, ◌<◌, ◌≤◌, length, true, IfOk, MatchResult};
 ghost use Rattle.aqe_trees.specs.declared.terminal.Key.TheVariants as k;
-ghost use Rattle.aqe_trees.specs.declared.terminal.Terminal.TheVariants.{Fixed, Name, Number};
 ghost use Rattle.aqe_trees.specs.Expressions.{IsOr, IsPrimary};
 ghost use Rattle.aqe_trees.specs.Words.{is_word, count_word};
 ghost use Rattle.aqe_reader.specs.Reading.{Read, Part, Refuses, Never, IsRefusal};
 ghost use Rattle.aqe_reader.specs.Nesting.{Nests};
-ghost use Rattle.aqe_reader.specs.Steps.{IsAsType};
+ghost use Rattle.aqe_reader.specs.Steps.{IsAsType, Keyed, Numbered, Named, Dotted, Called, Counted};
 
 use crate::ReadFault;
 use crate::case::case;
@@ -67,8 +66,8 @@ fn number(
     terminals: &[Terminal],
 ) -> Result<(PrimaryTree, &[Terminal]), ReadFault>
     ensures { MatchResult result
-        (λ x. Part (λ t ts us. IsPrimary t (Number value long ∷ ts) us) 20 terminals.now x.0 x.1.now)
-        (λ e. IsRefusal e → Refuses (λ t ts us. IsPrimary t (Number value long ∷ ts) us) 20 terminals.now) }
+        (λ x. Part (Numbered value long) 20 terminals.now x.0 x.1.now)
+        (λ e. IsRefusal e → Refuses (Numbered value long) 20 terminals.now) }
 {
     if value > 9223372036854775807 {
         return Err(ReadFault::before(terminals));
@@ -92,8 +91,8 @@ where
     requires nests { Nests F.Fn nest.now.read nest.now.room }
     requires room { length terminals.now < nest.now.room }
     ensures { MatchResult result
-        (λ x. Part (λ t ts us. IsPrimary t (Fixed key ∷ ts) us) 20 terminals.now x.0 x.1.now)
-        (λ e. IsRefusal e → Refuses (λ t ts us. IsPrimary t (Fixed key ∷ ts) us) 20 terminals.now) }
+        (λ x. Part (Keyed key) 20 terminals.now x.0 x.1.now)
+        (λ e. IsRefusal e → Refuses (Keyed key) 20 terminals.now) }
 {
     match key {
         Key::True => Ok((PrimaryTree::Boolean(true), terminals)),
@@ -110,8 +109,8 @@ where
 /// The number to which a `-` belongs.
 fn negative(terminals: &[Terminal]) -> Result<(PrimaryTree, &[Terminal]), ReadFault>
     ensures { MatchResult result
-        (λ x. Part (λ t ts us. IsPrimary t (Fixed k.Minus ∷ ts) us) 20 terminals.now x.0 x.1.now)
-        (λ e. IsRefusal e → Refuses (λ t ts us. IsPrimary t (Fixed k.Minus ∷ ts) us) 20 terminals.now) }
+        (λ x. Part (Keyed k.Minus) 20 terminals.now x.0 x.1.now)
+        (λ e. IsRefusal e → Refuses (Keyed k.Minus) 20 terminals.now) }
 {
     match next(terminals) {
         Some((Terminal::Number { value, long }, left)) => {
@@ -136,8 +135,8 @@ where
     requires nests { Nests F.Fn nest.now.read nest.now.room }
     requires room { length terminals.now < nest.now.room }
     ensures { MatchResult result
-        (λ x. Part (λ t ts us. IsPrimary t (Fixed k.Open ∷ ts) us) 20 terminals.now x.0 x.1.now)
-        (λ e. IsRefusal e → Refuses (λ t ts us. IsPrimary t (Fixed k.Open ∷ ts) us) 20 terminals.now) }
+        (λ x. Part (Keyed k.Open) 20 terminals.now x.0 x.1.now)
+        (λ e. IsRefusal e → Refuses (Keyed k.Open) 20 terminals.now) }
 {
     let (value, rest) = inner(nest, terminals)?;
     let (value, left) = beside(value, expect(rest, Key::Close))?;
@@ -168,8 +167,8 @@ where
     requires nests { Nests F.Fn nest.now.read nest.now.room }
     requires room { length terminals.now < nest.now.room }
     ensures { MatchResult result
-        (λ x. Part (λ t ts us. IsPrimary t (Fixed k.Cast ∷ ts) us) 20 terminals.now x.0 x.1.now)
-        (λ e. IsRefusal e → Refuses (λ t ts us. IsPrimary t (Fixed k.Cast ∷ ts) us) 20 terminals.now) }
+        (λ x. Part (Keyed k.Cast) 20 terminals.now x.0 x.1.now)
+        (λ e. IsRefusal e → Refuses (Keyed k.Cast) 20 terminals.now) }
 {
     let inside = expect(terminals, Key::Open)?;
     let (value, rest) = inner(nest, inside)?;
@@ -189,8 +188,8 @@ where
     requires nests { Nests F.Fn nest.now.read nest.now.room }
     requires room { length terminals.now < nest.now.room }
     ensures { MatchResult result
-        (λ x. Part (λ t ts us. IsPrimary t (Name text.now quoted ∷ ts) us) 20 terminals.now x.0 x.1.now)
-        (λ e. IsRefusal e → Refuses (λ t ts us. IsPrimary t (Name text.now quoted ∷ ts) us) 20 terminals.now) }
+        (λ x. Part (Named text.now quoted) 20 terminals.now x.0 x.1.now)
+        (λ e. IsRefusal e → Refuses (Named text.now quoted) 20 terminals.now) }
 {
     if let Some(after) = eat(terminals, Key::Dot) {
         return dotted(nest.alloc, text, quoted, after);
@@ -209,8 +208,8 @@ fn dotted<'a>(
     terminals: &'a [Terminal],
 ) -> Result<(PrimaryTree, &'a [Terminal]), ReadFault>
     ensures { MatchResult result
-        (λ x. Part (λ t ts us. IsPrimary t (Name text.now quoted ∷ Fixed k.Dot ∷ ts) us) 20 terminals.now x.0 x.1.now)
-        (λ e. IsRefusal e → Refuses (λ t ts us. IsPrimary t (Name text.now quoted ∷ Fixed k.Dot ∷ ts) us) 20 terminals.now) }
+        (λ x. Part (Dotted text.now quoted) 20 terminals.now x.0 x.1.now)
+        (λ e. IsRefusal e → Refuses (Dotted text.now quoted) 20 terminals.now) }
 {
     let Some((column, _, left)) = name(terminals) else {
         return Err(ReadFault::at(terminals));
@@ -228,8 +227,8 @@ fn counted<'a>(
 ) -> Result<(PrimaryTree, &'a [Terminal]), ReadFault>
     requires { is_word count_word text.now ≡ true }
     ensures { MatchResult result
-        (λ x. Part (λ t ts us. IsPrimary t (Name text.now quoted ∷ Fixed k.Open ∷ Fixed k.Star ∷ ts) us) 20 terminals.now x.0 x.1.now)
-        (λ e. IsRefusal e → Refuses (λ t ts us. IsPrimary t (Name text.now quoted ∷ Fixed k.Open ∷ Fixed k.Star ∷ ts) us) 20 terminals.now) }
+        (λ x. Part (Counted text.now quoted) 20 terminals.now x.0 x.1.now)
+        (λ e. IsRefusal e → Refuses (Counted text.now quoted) 20 terminals.now) }
 {
     let left = expect(terminals, Key::Close)?;
     Ok((PrimaryTree::CountAll, left))
@@ -247,8 +246,8 @@ where
     requires nests { Nests F.Fn nest.now.read nest.now.room }
     requires room { length terminals.now < nest.now.room }
     ensures { MatchResult result
-        (λ x. Part (λ t ts us. IsPrimary t (Name text.now quoted ∷ Fixed k.Open ∷ ts) us) 20 terminals.now x.0 x.1.now)
-        (λ e. IsRefusal e → Refuses (λ t ts us. IsPrimary t (Name text.now quoted ∷ Fixed k.Open ∷ ts) us) 20 terminals.now) }
+        (λ x. Part (Called text.now quoted) 20 terminals.now x.0 x.1.now)
+        (λ e. IsRefusal e → Refuses (Called text.now quoted) 20 terminals.now) }
 {
     if let Some(after) = star_at(text, terminals) {
         return counted(text, quoted, after);

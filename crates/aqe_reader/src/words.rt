@@ -4,6 +4,7 @@ ghost use Rattle.std.specs.Prelude.{◌≡◌, ◌∷◌, true, None, Some, Matc
 ghost use Rattle.aqe_trees.specs.declared.terminal.Key.TheVariants as k;
 ghost use Rattle.aqe_trees.specs.declared.terminal.Terminal.TheVariants.{Fixed};
 ghost use Rattle.aqe_trees.specs.Words.{compare_of, sum_of, product_of, truth_of, sign_at, type_of, type_named, is_word, count_word};
+ghost use Rattle.aqe_reader.specs.Steps.{NoStar};
 
 use crate::cursor::{eat, next};
 use aqe_trees::{CompareOp, Key, ProductOp, Sign, Terminal, Truth};
@@ -164,7 +165,7 @@ pub(crate) fn type_at(terminals: &[Terminal]) -> Option<(SqlType, &[Terminal])>
 /// What stands behind `*`, where the function is `count`.
 pub(crate) fn star_at<'a>(name: &Text, terminals: &'a [Terminal]) -> Option<&'a [Terminal]>
     ensures { MatchOption result
-        ((us : _) → is_word count_word name.now ≡ true → terminals.now ≡ Fixed k.Star ∷ us → ⊥)
+        (NoStar name.now terminals.now)
         (λ rest. (is_word count_word name.now ≡ true) × (terminals.now ≡ Fixed k.Star ∷ rest.now)) }
 {
     if !is_word("count", name.as_str()) {

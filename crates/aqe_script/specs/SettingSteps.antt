@@ -1,11 +1,16 @@
 -- What the steps of reading a SET leave.
 use Rattle.std.specs.Prelude.{ℕ, List, ◌∷◌, ◌≡◌, Some}
 use Rattle.aqe_lexer.specs.declared.token.Token.{Token}
+use Rattle.aqe_trees.specs.declared.terminal.Key.{Key}
 use Rattle.aqe_trees.specs.declared.terminal.Key.TheVariants as k
 use Rattle.aqe_script.specs.declared.setting.SetFault.{SetFault}
 use Rattle.aqe_script.specs.declared.setting.SetFault.TheVariants as fault
 use Rattle.aqe_script.specs.Terminals.{key_of}
 use Rattle.aqe_script.specs.Settings.{IsSettingKey}
+
+-- the tokens do not begin with this word or symbol
+abbrev pub NotFirst : List ℕ → Key → List Token → Type 0
+NotFirst source wanted tokens = (t : Token) (us : List Token) → tokens ≡ t ∷ us → key_of source t ≡ Some wanted → ⊥
 
 -- the tokens begin with a `=`
 pub data BeginsEqual (source : List ℕ) : List Token → Type 0 where

@@ -1,5 +1,5 @@
 -- Statements and whole scripts, over the tokens of a source.
-use Rattle.std.specs.Prelude.{ℕ, Bool, true, false, List, [], ◌∷◌, Option, Some}
+use Rattle.std.specs.Prelude.{ℕ, Bool, true, false, List, [], ◌∷◌, ◌≡◌, Option, Some}
 use Rattle.std.specs.List.{slice_split}
 use Rattle.aqe_lexer.specs.declared.token.Token.{Token}
 use Rattle.aqe_trees.specs.declared.query.QueryTree.{QueryTree}
@@ -22,18 +22,26 @@ pub data IsStatement (source : List ℕ) : Stmt → List Token → Type 0 where
   query : {tree : QueryTree} {ts : List Token} → IsQuery tree (terminals_of source ts) [] →
       IsStatement source (stmt.Query tree) ts
 
--- the key parts statements
-abbrev pub parts : Option Key → Bool
-parts (Some k.Semicolon) = true
-parts _ = false
+-- a statement ends at the key
+abbrev pub ends_statement : Option Key → Bool
+ends_statement (Some k.Semicolon) = true
+ends_statement _ = false
 
 -- the token is a `;`
 abbrev pub is_semicolon : List ℕ → Token → Bool
-is_semicolon source token = parts (key_of source token)
+is_semicolon source token = ends_statement (key_of source token)
 
 -- what stands between the semicolons, before the first and behind the last
 abbrev pub parts_of : List ℕ → List Token → List (List Token)
 parts_of source tokens = slice_split (is_semicolon source) tokens
+
+-- the part is all that there is: no semicolon stands in the tokens
+abbrev pub IsOnlyPart : List ℕ → List Token → List Token → Type 0
+IsOnlyPart source tokens part = parts_of source tokens ≡ part ∷ []
+
+-- the part stands before the first semicolon, and rest behind it
+abbrev pub IsFirstPart : List ℕ → List Token → List Token → List Token → Type 0
+IsFirstPart source tokens part rest = parts_of source tokens ≡ part ∷ parts_of source rest
 
 -- the statements of such parts in order: a part without tokens has none, each other has one
 pub data AreStatements (source : List ℕ) : List Stmt → List (List Token) → Type 0 where

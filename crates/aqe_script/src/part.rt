@@ -1,6 +1,6 @@
 //! The parts of a script between its semicolons.
 
-ghost use Rattle.std.specs.Prelude.{◌≡◌, ◌∷◌, ◌<◌, ◌≤◌, [], length, All, MatchOption};
+ghost use Rattle.std.specs.Prelude.{◌≡◌, ◌<◌, ◌≤◌, length, All, MatchOption};
 ghost use Rattle.std.specs.List.{position_or_len};
 ghost use Rattle.aqe_lexer.specs.Spans.{StandsIn, InOrder};
 ghost use Rattle.aqe_script.specs.Statements as spec;
@@ -35,8 +35,8 @@ fn part_len(source: &str, tokens: &[Token]) -> usize
 pub fn cut<'a>(source: &str, tokens: &'a [Token]) -> (&'a [Token], Option<&'a [Token]>)
     requires { All (StandsIn source.now) tokens.now }
     ensures parts { MatchOption result.1
-        (spec.parts_of source.now tokens.now ≡ result.0.now ∷ [])
-        (λ rest. spec.parts_of source.now tokens.now ≡ result.0.now ∷ spec.parts_of source.now rest.now) }
+        (spec.IsOnlyPart source.now tokens.now result.0.now)
+        (λ rest. spec.IsFirstPart source.now tokens.now result.0.now rest.now) }
     ensures part { All (StandsIn source.now) result.0.now }
     ensures rest { MatchOption result.1 (Unit {0}) (λ rest. All (StandsIn source.now) rest.now) }
     ensures order { InOrder 0 tokens.now → InOrder 0 result.0.now × MatchOption result.1 (Unit {0}) (λ rest. InOrder 0 rest.now) }

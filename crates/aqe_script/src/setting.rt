@@ -6,7 +6,7 @@ ghost use Rattle.aqe_lexer.specs.Spans.{StandsIn, InOrder};
 ghost use Rattle.aqe_lexer.specs.declared.token.TokenKind.TheVariants as kind;
 ghost use Rattle.aqe_script.specs.declared.setting.SetFault.TheVariants as fault;
 ghost use Rattle.aqe_script.specs.Settings.{IsSet, value_of, last_of};
-ghost use Rattle.aqe_script.specs.SettingSteps.{KeyRead, NoKey, IsRefusal};
+ghost use Rattle.aqe_script.specs.SettingSteps.{KeyRead, NoKey, NotFirst, IsRefusal};
 ghost use Rattle.aqe_script.specs.Terminals as spec;
 
 use crate::key_of;
@@ -76,7 +76,7 @@ fn word<'a>(source: &str, tokens: &'a [Token]) -> Option<(Token, &'a [Token])>
 fn behind<'a>(source: &str, tokens: &'a [Token], wanted: Key) -> Option<(Token, &'a [Token])>
     requires { All (StandsIn source.now) tokens.now }
     ensures key { MatchOption result
-        ((t : _) (us : _) → tokens.now ≡ t ∷ us → spec.key_of source.now t ≡ Some wanted → ⊥)
+        (NotFirst source.now wanted tokens.now)
         (λ x. (tokens.now ≡ x.0 ∷ x.1.now) × (spec.key_of source.now x.0 ≡ Some wanted)) }
     ensures stands { MatchOption result (Unit {0}) (λ x. All (StandsIn source.now) x.1.now) }
 {

@@ -15,7 +15,7 @@ use Rattle.aqe_lexer.specs.TokenList.{HasTokens, token_at}
 use Rattle.aqe_trees.specs.declared.terminal.Terminal.{Terminal}
 use Rattle.aqe_trees.specs.declared.terminal.Terminal.TheVariants.{Name, Literal}
 use Rattle.aqe_script.specs.Terminals.{key_of, key_of_text, fixed_or, content_terminal}
-use Rattle.aqe_script.specs.Statements.{parts}
+use Rattle.aqe_script.specs.Statements.{ends_statement}
 use Rattle.aqe_phrases.specs.Texts.{doubled, escaped, name_text, literal_text}
 use Rattle.aqe_spell.specs.Tokens.{Gives}
 use Rattle.aqe_spell.proofs.Cuts.{content_at}
@@ -99,7 +99,7 @@ quoted_gives q inner kind terminal begins none is source at rest d =
         alone = refl;
         is = ap (λ o. fixed_or o (content_terminal kind (text_of source token) (content_of source token))) key_is
             ∙ (ap (λ l. content_terminal kind (text_of source token) l) content ∙ is (text_of source token));
-        joins = ap parts key_is;
+        joins = ap ends_statement key_is;
       },
       λ more h. subst (λ n. HasTokens at ((word ++ 32 ∷ []) ++ rest) (token_at kind at n ∷ more)) size
           (spaced_cut kind word rest at more starts h),

@@ -20,12 +20,12 @@ use Rattle.aqe_trees.specs.Queries.{IsQuery, query_of, IsUnion, union_of, IsCore
 use Rattle.aqe_trees.specs.Tables.{IsCreate, create}
 use Rattle.aqe_trees.specs.Keywords.{symbol_key}
 use Rattle.aqe_script.specs.Terminals.{terminal_of, terminals_of}
-use Rattle.aqe_script.specs.Statements.{IsStatement, is_semicolon, parts, parts_of, AreStatements, finished, nothing, statement}
+use Rattle.aqe_script.specs.Statements.{IsStatement, is_semicolon, ends_statement, parts_of, AreStatements, finished, nothing, statement}
 use Rattle.aqe_script.specs.Statements.IsStatement.{create as said_create, query as said_query}
 use Rattle.aqe_phrases.specs.Texts.{text_of_all}
 use Rattle.aqe_phrases.specs.Written.{AllSound, Adds, Spelled}
 use Rattle.aqe_spell.specs.Clauses.{SpelledWhole}
-use Rattle.aqe_spell.specs.Tokens.{Gives, NoneParts, Writable, AllWritable, IsWhole, StatementText, Leads, ScriptText, HasScript, IsSpelling}
+use Rattle.aqe_spell.specs.Tokens.{Gives, NoneEnds, Writable, AllWritable, IsWhole, StatementText, Leads, ScriptText, HasScript, IsSpelling}
 use Rattle.aqe_spell.proofs.Cuts.{token_cut, blank_cut, text_at}
 use Rattle.aqe_spell.proofs.Sources.{terminals_stand, script_writable}
 use Rattle.aqe_spell.proofs.TextTokens.{words_give, gives_both, gives_nothing, gives_as}
@@ -43,7 +43,7 @@ words_text x words old new a some f =
       gives = gives_as (text_of_all (words [])) (words_give (words []) sound) (λ source ts are. record {
         is_statement = f source ts are.are;
         some = subst (λ n. 0 < n) (sym (ap length are.are) ∙ length-map ts (terminal_of source)) some;
-        none_parts = are.none_parts;
+        none_ends = are.none_ends;
       });
     }
 
@@ -93,14 +93,14 @@ end_gives source at rest d =
       wanted = record {
         token = token;
         alone = refl;
-        ends = ap (λ l. parts (symbol_key l)) (text_at source (59 ∷ []) (10 ∷ rest) kind.Symbol at d);
+        ends = ap (λ l. ends_statement (symbol_key l)) (text_at source (59 ∷ []) (10 ∷ rest) kind.Symbol at d);
       };
       cut = λ more h. token_cut kind.Symbol (59 ∷ []) (10 ∷ rest) at more (record { some = omega arith; fits = refl })
           (blank_cut 10 rest (at + 1) more refl (subst (λ n. HasTokens n rest more) (omega arith) h));
     }
 
--- none of the tokens parts statements, by their index
-all_join : (source : List ℕ) (ts : List Token) → NoneParts source ts → All (λ t. is_semicolon source t ≡ false) ts
+-- no statement ends at one of the tokens, by their index
+all_join : (source : List ℕ) (ts : List Token) → NoneEnds source ts → All (λ t. is_semicolon source t ≡ false) ts
 all_join source [] p = All-nil (λ t. is_semicolon source t ≡ false)
 all_join source (t ∷ ts) p = All-cons (λ t. is_semicolon source t ≡ false) t ts p.0 (all_join source ts p.1)
 
@@ -114,7 +114,7 @@ leads_on : (source : List ℕ) (x : Stmt) (left : List Stmt) (ts : List Token) (
     → is_semicolon source end ≡ true → Leads (x ∷ left) left source (ts ++ end ∷ [])
 leads_on source x left ts end w e more d =
     let cut : parts_of source (ts ++ end ∷ more) ≡ ts ∷ parts_of source more =
-    slice_split_at (is_semicolon source) ts end more (all_join source ts w.none_parts) e in
+    slice_split_at (is_semicolon source) ts end more (all_join source ts w.none_ends) e in
     let whole : (ts ++ end ∷ []) ++ more ≡ ts ++ end ∷ more = append_assoc ts (end ∷ []) more in
     subst (λ l. AreStatements source (x ∷ left) (parts_of source l)) (sym whole)
     (subst (AreStatements source (x ∷ left)) (sym cut) (first_statement source x left ts (parts_of source more) w.some w.is_statement d))

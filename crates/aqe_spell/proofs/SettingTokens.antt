@@ -23,11 +23,11 @@ use Rattle.aqe_script.specs.Terminals.{key_of, key_of_text, fixed_or, content_te
 use Rattle.aqe_script.specs.Settings.{IsSettingKey, string_value, value_of, IsSet}
 use Rattle.aqe_script.specs.Settings.IsSettingKey.{word as key_word, pointed as key_pointed}
 use Rattle.aqe_script.specs.Settings.IsSet.{set as setting}
-use Rattle.aqe_script.specs.Statements.{IsStatement, parts}
+use Rattle.aqe_script.specs.Statements.{IsStatement, ends_statement}
 use Rattle.aqe_script.specs.Statements.IsStatement.{set as said_set}
 use Rattle.aqe_phrases.specs.Texts.{literal_text, spaced}
 use Rattle.aqe_phrases.specs.Written.{Adds}
-use Rattle.aqe_spell.specs.Tokens.{Gives, NoneParts, IsFine, AllFine, Writable, IsWhole, StatementText}
+use Rattle.aqe_spell.specs.Tokens.{Gives, NoneEnds, IsFine, AllFine, Writable, IsWhole, StatementText}
 use Rattle.aqe_spell.proofs.Cuts.{token_cut, text_at, past, word_begins}
 use Rattle.aqe_spell.proofs.WordTokens.{spaced_cut, spaced_at, key_gives}
 use Rattle.aqe_spell.proofs.QuotedTokens.{string_gives_token}
@@ -38,21 +38,21 @@ not_true : (b : Bool) → not b ≡ true → b ≡ false
 not_true true e = absurd cc
 not_true false e = refl
 
--- no word parts statements
-keys_join : (keys : List Key) (text : List ℕ) → list_all (λ key. not (parts (Some key))) keys ≡ true
-    → parts (find (λ key. spells text key) keys) ≡ false
+-- no statement ends at a word
+keys_join : (keys : List Key) (text : List ℕ) → list_all (λ key. not (ends_statement (Some key))) keys ≡ true
+    → ends_statement (find (λ key. spells text key) keys) ≡ false
 keys_join [] text e = refl
 keys_join (key ∷ more) text e =
-    let both = and_parts (not (parts (Some key))) (list_all (λ key. not (parts (Some key))) more) e in
-    elim (spells text key) as (λ b. parts (cond b (Some key) (find (λ key. spells text key) more)) ≡ false) [
-      | true ↦ not_true (parts (Some key)) both.0
+    let both = and_parts (not (ends_statement (Some key))) (list_all (λ key. not (ends_statement (Some key))) more) e in
+    elim (spells text key) as (λ b. ends_statement (cond b (Some key) (find (λ key. spells text key) more)) ≡ false) [
+      | true ↦ not_true (ends_statement (Some key)) both.0
       | false ↦ keys_join more text both.1
     ]
 
-word_joins : (text : List ℕ) → parts (word_key text) ≡ false
+word_joins : (text : List ℕ) → ends_statement (word_key text) ≡ false
 word_joins text = keys_join word_keys text refl
 
-none_append : (source : List ℕ) (xs ys : List Token) → NoneParts source xs → NoneParts source ys → NoneParts source (xs ++ ys)
+none_append : (source : List ℕ) (xs ys : List Token) → NoneEnds source xs → NoneEnds source ys → NoneEnds source (xs ++ ys)
 none_append source [] ys p q = q
 none_append source (x ∷ xs) ys p q = (p.0, none_append source xs ys p.1 q)
 
@@ -66,7 +66,7 @@ word_low (b ∷ text) e =
 -- the tokens are a setting's key, whatever follows
 record IsKey (key : List ℕ) (source : List ℕ) (tokens : List Token) : Type 0 where
   is : (us : List Token) → IsSettingKey source key (tokens ++ us) us
-  none_parts : NoneParts source tokens
+  none_ends : NoneEnds source tokens
 
 record KeyGives (key : List ℕ) : Type 0 where
   is_text : IsUtf8 key
@@ -80,7 +80,7 @@ last_word word s f source at rest d =
       tokens = token ∷ [];
       wanted = record {
         is = λ us. subst (λ l. IsSettingKey source l (token ∷ us) us) text (key_word refl);
-        none_parts = (ap (λ l. parts (word_key l)) text ∙ word_joins word, tt);
+        none_ends = (ap (λ l. ends_statement (word_key l)) text ∙ word_joins word, tt);
       };
       cut = λ more h. spaced_cut kind.Word word rest at more (word_begins word 32 rest s f refl) h;
     }
@@ -93,7 +93,7 @@ record IsPointed (word : List ℕ) (source : List ℕ) (tokens : List Token) : T
   is_word : first.kind ≡ kind.Word
   text : text_of source first ≡ word
   is_point : key_of source point ≡ Some k.Dot
-  none_parts : NoneParts source tokens
+  none_ends : NoneEnds source tokens
 
 pointed_word : (word : List ℕ) → is_word_start (slice_index word 0) ≡ true → list_all is_word_byte word ≡ true → Gives (word ++ 46 ∷ []) (IsPointed word)
 pointed_word word s f source at rest d =
@@ -111,7 +111,7 @@ pointed_word word s f source at rest d =
         is_word = refl;
         text = text;
         is_point = ap symbol_key dot;
-        none_parts = (ap (λ l. parts (word_key l)) text ∙ word_joins word, (ap (λ l. parts (symbol_key l)) dot, tt));
+        none_ends = (ap (λ l. ends_statement (word_key l)) text ∙ word_joins word, (ap (λ l. ends_statement (symbol_key l)) dot, tt));
       };
       cut = λ more h. subst (λ l. HasTokens at l (first ∷ point ∷ more)) (sym (append_assoc word (46 ∷ []) rest))
           (token_cut kind.Word word (46 ∷ rest) at (point ∷ more) (word_begins word 46 rest s f refl)
@@ -129,7 +129,7 @@ pointed_key word key g h =
       is = λ us. subst (λ l. IsSettingKey source (word ++ 46 ∷ key) ((l ++ ys) ++ us) us) (sym p.both)
           (subst (λ l. IsSettingKey source (l ++ 46 ∷ key) (p.first ∷ p.point ∷ (ys ++ us)) us) p.text
           (key_pointed p.is_word p.is_point (q.is us)));
-      none_parts = none_append source xs ys p.none_parts q.none_parts;
+      none_ends = none_append source xs ys p.none_ends q.none_ends;
     }))
 
 key_gives_tokens : {source key : List ℕ} {ts us : List Token} → IsSettingKey source key ts us → AllFine source ts → KeyGives key
@@ -166,7 +166,7 @@ record IsTail (value : List ℕ) (source : List ℕ) (tokens : List Token) : Typ
   both : tokens ≡ equal ∷ first ∷ []
   is_equal : key_of source equal ≡ Some k.Equal
   is_value : value_of source first [] ≡ value
-  none_parts : NoneParts source tokens
+  none_ends : NoneEnds source tokens
 
 tail_gives : (value : List ℕ) → Gives (spaced (Fixed k.Equal) ++ spaced (Literal value)) (IsTail value)
 tail_gives value =
@@ -180,8 +180,8 @@ tail_gives value =
       both = all;
       is_equal = key_is (key_of source equal) equal.kind (text_of source equal) (content_of source equal) k.Equal one.is;
       is_value = ap (λ x. string_value x (text_of source first) (content_of source first)) string.is_literal ∙ string.stands_for;
-      none_parts = subst (NoneParts source) (sym all)
-          (one.joins, (ap (λ x. parts (key_of_text x (text_of source first))) string.is_literal, tt));
+      none_ends = subst (NoneEnds source) (sym all)
+          (one.joins, (ap (λ x. ends_statement (key_of_text x (text_of source first))) string.is_literal, tt));
     })
 
 set_read : (source key value : List ℕ) (t equal first : Token) (ts : List Token) → key_of source t ≡ Some k.Set
@@ -194,7 +194,7 @@ set_gives : (key value : List ℕ) → Gives (key ++ 32 ∷ []) (IsKey key)
 set_gives key value g =
     gives_both
     {B = λ source ts. (equal : Token) × (first : Token) × IsSettingKey source key ts (equal ∷ first ∷ []) × (key_of source equal ≡ Some k.Equal)
-    × (value_of source first [] ≡ value) × NoneParts source ts}
+    × (value_of source first [] ≡ value) × NoneEnds source ts}
     (spaced (Fixed k.Set)) ((key ++ 32 ∷ []) ++ (spaced (Fixed k.Equal) ++ spaced (Literal value)))
     (key_gives k.Set refl)
     (gives_both (key ++ 32 ∷ []) (spaced (Fixed k.Equal) ++ spaced (Literal value)) g (tail_gives value)
@@ -204,14 +204,14 @@ set_gives key value g =
       subst (λ l. IsSettingKey source key (xs ++ l) (b.equal ∷ b.first ∷ [])) (sym b.both) (a.is (b.equal ∷ b.first ∷ [])),
       b.is_equal,
       b.is_value,
-      none_append source xs ys a.none_parts b.none_parts,
+      none_append source xs ys a.none_ends b.none_ends,
     )))
     (λ source xs ys one b.
     subst (λ l. IsWhole (stmt.Set (set_form key value)) source (l ++ ys)) (sym one.alone) (record {
       is_statement = said_set (set_read source key value one.token b.0 b.1 ys
           (key_is (key_of source one.token) one.token.kind (text_of source one.token) (content_of source one.token) k.Set one.is) b.2 b.3 b.4);
       some = omega arith;
-      none_parts = (one.joins, b.5);
+      none_ends = (one.joins, b.5);
     }))
 
 is_set : {source : List ℕ} {form : SetForm} {ts : List Token} → IsStatement source (stmt.Set form) ts → IsSet source form ts

@@ -8,7 +8,7 @@ use Rattle.aqe_trees.specs.declared.terminal.Terminal.TheVariants.{Fixed, Name, 
 use Rattle.aqe_script.specs.Terminals.{terminals_of}
 use Rattle.aqe_phrases.specs.Texts.{is_bare, spaced, text_of_all}
 use Rattle.aqe_phrases.specs.Written.{Sound, AllSound}
-use Rattle.aqe_spell.specs.Tokens.{Gives, NoneParts}
+use Rattle.aqe_spell.specs.Tokens.{Gives, NoneEnds}
 use Rattle.aqe_spell.proofs.Cuts.{past}
 use Rattle.aqe_spell.proofs.WordTokens.{IsOne, key_gives, name_gives}
 use Rattle.aqe_spell.proofs.QuotedTokens.{quoted_name_gives, literal_gives}
@@ -42,10 +42,10 @@ pub gives_as : {A B : List ℕ → List Token → Type 0} (a : List ℕ) → Giv
 gives_as a g f source at rest d =
     let x = g source at rest d in record { tokens = x.tokens; wanted = f source x.tokens x.wanted; cut = x.cut }
 
--- the tokens are the terminals, and none parts statements
+-- the tokens are the terminals, and at none of them a statement ends
 pub record Are (words : List Terminal) (source : List ℕ) (tokens : List Token) : Type 0 where
   pub are : terminals_of source tokens ≡ words
-  pub none_parts : NoneParts source tokens
+  pub none_ends : NoneEnds source tokens
 
 bare : (b : Bool) → false ≡ not b → b ≡ true
 bare true e = refl
@@ -60,11 +60,11 @@ terminal_gives (Number value long) s = number_gives value long s
 terminal_gives Mixed s = absurd s
 
 pub words_give : (words : List Terminal) → AllSound words → Gives (text_of_all words) (Are words)
-words_give [] s = gives_nothing (λ source. record { are = refl; none_parts = tt })
+words_give [] s = gives_nothing (λ source. record { are = refl; none_ends = tt })
 words_give (t ∷ words) s =
     gives_both (spaced t) (text_of_all words) (terminal_gives t s.0) (words_give words s.1)
     (λ source xs ys one all.
     subst (λ l. Are (t ∷ words) source (l ++ ys)) (sym one.alone) (record {
       are = rw (one.is, all.are) refl;
-      none_parts = (one.joins, all.none_parts);
+      none_ends = (one.joins, all.none_ends);
     }))

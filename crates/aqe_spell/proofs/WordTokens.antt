@@ -18,12 +18,12 @@ use Rattle.aqe_trees.specs.declared.terminal.Terminal.{Terminal}
 use Rattle.aqe_trees.specs.declared.terminal.Terminal.TheVariants.{Fixed, Name}
 use Rattle.aqe_trees.specs.Keywords.{key_text, word_key, symbol_key, is_reserved}
 use Rattle.aqe_script.specs.Terminals.{terminal_of, key_of, key_of_text, fixed_or, content_terminal}
-use Rattle.aqe_script.specs.Statements.{is_semicolon, parts}
+use Rattle.aqe_script.specs.Statements.{is_semicolon, ends_statement}
 use Rattle.aqe_phrases.specs.Texts.{is_bare}
 use Rattle.aqe_spell.specs.Tokens.{Gives}
 use Rattle.aqe_spell.proofs.Cuts.{token_cut, blank_cut, text_at, word_begins}
 
--- one token, which is the terminal and parts nothing
+-- one token, which is the terminal and ends no statement
 pub record IsOne (terminal : Terminal) (source : List ℕ) (tokens : List Token) : Type 0 where
   pub token : Token
   pub alone : tokens ≡ token ∷ []
@@ -44,7 +44,7 @@ pub spaced_at : (source word rest : List ℕ) (at : ℕ) → drop at source ≡ 
 spaced_at source word rest at e = e ∙ append_assoc word (32 ∷ []) rest
 
 -- a reserved word or symbol
-fixed_gives : (kind : TokenKind) (word : List ℕ) (key : Key) → key_of_text kind word ≡ Some key → parts (Some key) ≡ false
+fixed_gives : (kind : TokenKind) (word : List ℕ) (key : Key) → key_of_text kind word ≡ Some key → ends_statement (Some key) ≡ false
     → ((rest : List ℕ) → Begins (word ++ 32 ∷ rest) (piece.Cut kind (length word)))
     → Gives (word ++ 32 ∷ []) (IsOne (Fixed key))
 fixed_gives kind word key e p begins source at rest d =
@@ -57,20 +57,20 @@ fixed_gives kind word key e p begins source at rest d =
         token = token;
         alone = refl;
         is = ap (λ o. fixed_or o (content_terminal kind (text_of source token) (content_of source token))) key_is;
-        joins = ap parts key_is ∙ p;
+        joins = ap ends_statement key_is ∙ p;
       };
       cut = λ more h. spaced_cut kind word rest at more (begins rest) h;
     }
 
-keyword : (word : List ℕ) (key : Key) → word_key word ≡ Some key → parts (Some key) ≡ false
+keyword : (word : List ℕ) (key : Key) → word_key word ≡ Some key → ends_statement (Some key) ≡ false
     → is_word_start (slice_index word 0) ≡ true → list_all is_word_byte word ≡ true → Gives (word ++ 32 ∷ []) (IsOne (Fixed key))
 keyword word key e p s f = fixed_gives kind.Word word key e p (λ rest. word_begins word 32 rest s f refl)
 
-symbol : (word : List ℕ) (key : Key) → symbol_key word ≡ Some key → parts (Some key) ≡ false
+symbol : (word : List ℕ) (key : Key) → symbol_key word ≡ Some key → ends_statement (Some key) ≡ false
     → ((rest : List ℕ) → Begins (word ++ 32 ∷ rest) (piece.Cut kind.Symbol (length word))) → Gives (word ++ 32 ∷ []) (IsOne (Fixed key))
 symbol word key e p begins = fixed_gives kind.Symbol word key e p begins
 
-pub key_gives : (key : Key) → parts (Some key) ≡ false → Gives (key_text key ++ 32 ∷ []) (IsOne (Fixed key))
+pub key_gives : (key : Key) → ends_statement (Some key) ≡ false → Gives (key_text key ++ 32 ∷ []) (IsOne (Fixed key))
 key_gives k.All p = keyword (codes "ALL") k.All refl p refl refl
 key_gives k.And p = keyword (codes "AND") k.And refl p refl refl
 key_gives k.Anti p = keyword (codes "ANTI") k.Anti refl p refl refl
@@ -156,7 +156,7 @@ name_gives text e source at rest d =
         token = token;
         alone = refl;
         is = ap (λ o. fixed_or o (Name (text_of source token) false)) key_is ∙ ap (λ l. Name l false) is;
-        joins = ap parts key_is;
+        joins = ap ends_statement key_is;
       };
       cut = λ more h. spaced_cut kind.Word text rest at more (word_begins text 32 rest second.0 second.1 refl) h;
     }

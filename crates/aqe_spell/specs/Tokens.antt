@@ -21,10 +21,10 @@ pub record Given (bytes : List ℕ) (Wanted : List ℕ → List Token → Type 0
 abbrev pub Gives : List ℕ → (List ℕ → List Token → Type 0) → Type 0
 Gives bytes Wanted = (source : List ℕ) (at : ℕ) (rest : List ℕ) → drop at source ≡ bytes ++ rest → Given bytes Wanted source at rest
 
--- none of the tokens parts statements
-abbrev pub NoneParts : List ℕ → List Token → Type 0
-NoneParts source [] = Unit {0}
-NoneParts source (t ∷ ts) = (is_semicolon source t ≡ false) × NoneParts source ts
+-- no statement ends at one of the tokens
+abbrev pub NoneEnds : List ℕ → List Token → Type 0
+NoneEnds source [] = Unit {0}
+NoneEnds source (t ∷ ts) = (is_semicolon source t ≡ false) × NoneEnds source ts
 
 -- What holds of each token of a source: a word begins with a letter or `_`, a quoted name has content, and a
 -- number is within its limit.
@@ -50,11 +50,11 @@ abbrev pub AllWritable : List Stmt → Type 0
 AllWritable [] = Unit {0}
 AllWritable (first ∷ rest) = Writable first × AllWritable rest
 
--- tokens that are the statement, of which there is one, and none parts statements
+-- tokens that are the statement, of which there is one, and at none of which a statement ends
 pub record IsWhole (statement : Stmt) (source : List ℕ) (tokens : List Token) : Type 0 where
   pub is_statement : IsStatement source statement tokens
   pub some : 0 < length tokens
-  pub none_parts : NoneParts source tokens
+  pub none_ends : NoneEnds source tokens
 
 -- the text grew by a text of the statement
 pub record StatementText (statement : Stmt) (old new : List ℕ) : Type 0 where

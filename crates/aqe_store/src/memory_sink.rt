@@ -12,9 +12,9 @@ use std::alloc::Global;
 
 /// A sink that keeps the bytes it takes, up to its room, which is reserved when it is made.
 ///
-/// It takes as much of a piece as its room allows. The writes that are told to fail do so, and a write of a
-/// piece that is not empty where no room is left; no other write fails. Writes are counted from 1; the count
-/// stops at 4294967295, and no later write is among those told to fail.
+/// A write fails where its number is among those chosen for it, or where it brings bytes and the room is used up.
+/// Any other takes its piece, up to the room that is left. The first write has the number 1; behind 4294967295
+/// writes have no number, so that none of them is a chosen one.
 #[derive(Drop)]
 pub struct MemorySink {
     bytes: Vec<u8>,

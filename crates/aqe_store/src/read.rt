@@ -98,7 +98,8 @@ fn take_all<S: Store>(
     ensures bound { OnOk result (vec_len bytes.new ≤ max) }
     ensures at_end { OnOk result (IsAtEnd (left_of (S.files store.new) (S.opened store.new))) }
     ensures long { result ≡ Err ReadFail.TooLong → Came (S.files store.old) (S.files store.new)
-        (S.opened store.old) (S.opened store.new) bytes.new.items × (vec_len bytes.new ≡ max + 1) }
+        (S.opened store.old) (S.opened store.new) bytes.new.items }
+    ensures over { result ≡ Err ReadFail.TooLong → vec_len bytes.new ≡ max + 1 }
     ensures keeps { KeepsFiles (S.files store.old) (S.files store.new) }
     ensures causes { HasReadCauses (S.faults store.old) (S.faults store.new)
         (S.misses store.old) (S.misses store.new) result }

@@ -69,7 +69,7 @@ pub trait Store {
         ensures causes { HasCauses (faults self.old) (faults self.new)
             (misses self.old) (misses self.new) result };
 
-    /// Opens a file at its first byte, and closes the one before. After a refusal no file is open.
+    /// Opens a file, of which no byte is taken yet. Whatever was open is closed by the call, also where it is refused.
     fn begin_file(&mut self, alloc: Global, path: &str) -> Result<(), StoreFail>
         ensures keeps { KeepsFiles (files self.old) (files self.new) }
         ensures opens { OnOk result (opened self.new ≡ Some (path.now, 0)) }

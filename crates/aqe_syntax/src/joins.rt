@@ -1,10 +1,9 @@
 //! The kinds of join, with JOIN itself.
 
-ghost use Rattle.std.specs.Prelude.{◌≡◌, ◌∷◌, MatchOption, IfErr};
-ghost use Rattle.aqe_trees.specs.declared.terminal.Terminal;
+ghost use Rattle.std.specs.Prelude.{◌≡◌, MatchOption, IfErr};
 ghost use Rattle.aqe_trees.specs.Follow.{binds_at};
 ghost use Rattle.aqe_trees.specs.Queries.{IsKind};
-ghost use Rattle.aqe_syntax.specs.Parts.{IsOuterJoin};
+ghost use Rattle.aqe_syntax.specs.Parts.{IsOuterJoin, IsLeftKind};
 
 use crate::words::pair;
 use aqe_base::JoinKind;
@@ -48,8 +47,8 @@ pub fn kind(terminals: &[Terminal]) -> Option<(JoinKind, &[Terminal])>
 /// The kind of join behind LEFT, and what stands behind its JOIN.
 fn left_join(terminals: &[Terminal]) -> Option<(JoinKind, &[Terminal])>
     ensures { MatchOption result
-        ((a : _) (us : _) → IsKind a (Terminal.Fixed Key.Left ∷ terminals.now) us → ⊥)
-        (λ x. IsKind x.0 (Terminal.Fixed Key.Left ∷ terminals.now) x.1.now) }
+        ((a : _) (us : _) → IsLeftKind a terminals.now us → ⊥)
+        (λ x. IsLeftKind x.0 terminals.now x.1.now) }
 {
     if let Some(rest) = pair(terminals, Key::Semi, Key::Join) {
         return Some((JoinKind::LeftSemi, rest));

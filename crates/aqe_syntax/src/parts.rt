@@ -7,7 +7,7 @@ ghost use Rattle.aqe_trees.specs.Follow.{key_binds};
 ghost use Rattle.aqe_trees.specs.Lists.{Listed, IsClause, IsBound, IsAlias, IsDistinct};
 ghost use Rattle.aqe_trees.specs.Queries.{IsItem, IsWay, IsNulls, IsSort, IsOrder, IsGroup};
 ghost use Rattle.aqe_reader.specs.Reading.{Read, Refuses, Part, IsRefusal};
-ghost use Rattle.aqe_syntax.specs.Parts.{IsTail, IsConditions};
+ghost use Rattle.aqe_syntax.specs.Parts.{IsTail, IsConditions, KeyPart, NoKeyPart};
 
 use crate::words::{copied, is_word, name_star, number, word};
 use aqe_reader::cursor::{eat, expect, name};
@@ -71,8 +71,8 @@ pub fn nulls(terminals: &[Terminal], usual: bool) -> Result<(bool, &[Terminal]),
 /// `[LIMIT number]` or `[OFFSET number]`, by its word.
 pub fn bound(terminals: &[Terminal], key: Key) -> Result<(Option<u64>, &[Terminal]), ReadFault>
     ensures { MatchResult result
-        (λ x. Part (IsBound key) (key_binds key) terminals.now x.0 x.1.now)
-        (λ e. IsRefusal e → Refuses (IsBound key) (key_binds key) terminals.now) }
+        (λ x. KeyPart IsBound key terminals.now x.0 x.1.now)
+        (λ e. IsRefusal e → NoKeyPart IsBound key terminals.now) }
 {
     let Some(after) = eat(terminals, key) else {
         return Ok((None, terminals));
@@ -115,8 +115,8 @@ pub fn clause(
 ) -> Result<(Option<Boxed<OrTree>>, &[Terminal]), ReadFault>
     requires { key_binds key < 14 }
     ensures { MatchResult result
-        (λ x. Part (IsClause key) (key_binds key) terminals.now x.0 x.1.now)
-        (λ e. IsRefusal e → Refuses (IsClause key) (key_binds key) terminals.now) }
+        (λ x. KeyPart IsClause key terminals.now x.0 x.1.now)
+        (λ e. IsRefusal e → NoKeyPart IsClause key terminals.now) }
 {
     let Some(after) = eat(terminals, key) else {
         return Ok((None, terminals));

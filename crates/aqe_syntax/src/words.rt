@@ -3,6 +3,7 @@
 ghost use Rattle.std.specs.Prelude.{◌≡◌, ◌∷◌, MatchOption, IfOk, false};
 ghost use Rattle.aqe_trees.specs.declared.terminal.Terminal;
 ghost use Rattle.aqe_trees.specs.Words as words;
+ghost use Rattle.aqe_syntax.specs.Parts.{two_keys, dotted_star, NoNumber};
 
 use aqe_reader::cursor::{eat, name, next};
 use aqe_trees::{Key, Terminal};
@@ -12,8 +13,8 @@ use std::alloc::Global;
 /// What stands behind two words or symbols, where they come first.
 pub fn pair(terminals: &[Terminal], first: Key, second: Key) -> Option<&[Terminal]>
     ensures { MatchOption result
-        ((us : _) → terminals.now ≡ Terminal.Fixed first ∷ Terminal.Fixed second ∷ us → ⊥)
-        (λ rest. terminals.now ≡ Terminal.Fixed first ∷ Terminal.Fixed second ∷ rest.now) }
+        ((us : _) → terminals.now ≡ two_keys first second us → ⊥)
+        (λ rest. terminals.now ≡ two_keys first second rest.now) }
 {
     let rest = eat(terminals, first)?;
     eat(rest, second)
@@ -39,7 +40,7 @@ pub fn is_word(text: &Text, word: &str) -> bool
 /// The number that comes first, whether it ends in the letter of BIGINT, and what stands behind it.
 pub fn number(terminals: &[Terminal]) -> Option<(u64, bool, &[Terminal])>
     ensures { MatchOption result
-        ((value : _) (long : _) (us : _) → terminals.now ≡ Terminal.Number value long ∷ us → ⊥)
+        (NoNumber terminals.now)
         (λ x. terminals.now ≡ Terminal.Number x.0 x.1 ∷ x.2.now) }
 {
     match next(terminals) {
@@ -51,8 +52,8 @@ pub fn number(terminals: &[Terminal]) -> Option<(u64, bool, &[Terminal])>
 /// The name that comes first, with a point and a star behind it, and what stands behind these.
 pub fn name_star(terminals: &[Terminal]) -> Option<(&Text, bool, &[Terminal])>
     ensures { MatchOption result
-        ((text : _) (quoted : _) (us : _) → terminals.now ≡ Terminal.Name text quoted ∷ Terminal.Fixed Key.Dot ∷ Terminal.Fixed Key.Star ∷ us → ⊥)
-        (λ x. terminals.now ≡ Terminal.Name x.0.now x.1 ∷ Terminal.Fixed Key.Dot ∷ Terminal.Fixed Key.Star ∷ x.2.now) }
+        ((text : _) (quoted : _) (us : _) → terminals.now ≡ dotted_star text quoted us → ⊥)
+        (λ x. terminals.now ≡ dotted_star x.0.now x.1 x.2.now) }
 {
     let (text, quoted, rest) = name(terminals)?;
     let rest = pair(rest, Key::Dot, Key::Star)?;

@@ -102,3 +102,7 @@ is_reserved text = is_some (word_key text)
 abbrev pub symbol_key : List ℕ → Option Key
 symbol_key text =
     if str_eq_ignore_ascii_case text (codes "!=") then Some k.NotEqual else find (λ key. spells text key) symbol_keys
+
+-- the reserved word or symbol that a text is
+abbrev pub text_key : List ℕ → Option Key
+text_key text = if is_reserved text then word_key text else symbol_key text

@@ -13,7 +13,7 @@ pub use expression::{
     ProductOp, ProductTree, Sign, SignTree, SumTree, Test, Truth,
 };
 pub use keyword::{key_text, symbol_key, word_key};
-pub use laws::{one_query, one_table};
+pub use laws::{keys_read_back, one_query, one_table};
 pub use query::{
     CoreTree, ItemTree, JoinStep, JoinedTree, QueryTree, SelectTree, SortTree, SourceTree,
     UnionTree,

@@ -98,6 +98,6 @@ pub enum Terminal {
     Literal(Text),
     /// A number, and whether it ends in the letter of BIGINT.
     Number { value: u64, long: bool },
-    /// A run that begins with a digit and is no number.
+    /// A token that no rule of the grammar takes, as `64MB`.
     Mixed,
 }
