@@ -4,7 +4,7 @@ use Rattle.std.specs.List.{list_all}
 use Rattle.aqe_values.specs.declared.value.Value.{Value}
 use Rattle.aqe_values.specs.declared.value.Value.TheVariants.{Null}
 use Rattle.aqe_expr.specs.declared.expr.Expr.{Expr}
-use Rattle.aqe_expr.specs.Columns.{ColumnsBelow}
+use Rattle.aqe_expr.specs.Below.{ColumnsBelow}
 use Rattle.aqe_expr.specs.Meaning.{val, holds}
 use Rattle.aqe_columns.specs.Reading.{columns_of}
 use Rattle.aqe_columns.specs.Replacing.{replaced}

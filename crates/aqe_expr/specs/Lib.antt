@@ -1,7 +1,7 @@
 pub mod Meaning
 pub mod Shapes
 pub mod Chains
-pub mod Columns
+pub mod Below
 pub mod Seen
 pub mod Operators
 pub use Rattle.aqe_scalar.specs.Numbers

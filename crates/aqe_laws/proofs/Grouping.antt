@@ -4,7 +4,7 @@ use Rattle.aqe_expr.specs.declared.expr.Expr.{Expr, Column, Literal, Coalesce}
 use Rattle.aqe_expr.specs.declared.expr.Operands as list
 use Rattle.aqe_expr.specs.declared.expr.CasePairs as pairs
 use Rattle.aqe_expr.specs.Shapes.{unary_of, binary_of, between_of, one_of, case_of, switch_of, operand, pair}
-use Rattle.aqe_expr.specs.Columns.{ColumnsBelow, EachBelow, PairsBelow}
+use Rattle.aqe_expr.specs.Below.{ColumnsBelow, EachBelow, PairsBelow}
 use Rattle.aqe_rules.specs.Outcomes.{Outcome, upon}
 use Rattle.aqe_rules.specs.Equality.{same_expr}
 use Rattle.aqe_rules.specs.Grouping.{from_key, call_behind, grouped, grouped_list, grouped_pairs}

@@ -10,7 +10,7 @@ use Rattle.aqe_expr.specs.declared.expr.BinaryOp.{BinaryOp}
 use Rattle.aqe_expr.specs.declared.expr.BinaryOp.TheVariants as binary
 use Rattle.aqe_expr.specs.declared.expr.Expr.{Expr, Literal, Coalesce}
 use Rattle.aqe_expr.specs.Shapes.{binary_of, between_of, one_of, case_of, switch_of}
-use Rattle.aqe_expr.specs.Columns.{ColumnsBelow, EachBelow, PairsBelow}
+use Rattle.aqe_expr.specs.Below.{ColumnsBelow, EachBelow, PairsBelow}
 use Rattle.aqe_expr.specs.Casts.{fits_int}
 use Rattle.aqe_trees.specs.declared.expression.CompareOp.{CompareOp}
 use Rattle.aqe_trees.specs.declared.expression.Sign.{Sign}

@@ -3,7 +3,7 @@ use Rattle.std.proofs.Common.{◌≡◌, ℕ, ◌+◌, Bool, true, false, cond, 
 use Rattle.std.specs.Prelude.{All}
 use Rattle.std.proofs.lemmas.List.{length-map}
 use Rattle.std.proofs.lemmas.List.Elements.{All-nil, All-head, All-tail, All-append, All-map, All-weaker}
-use Rattle.aqe_expr.specs.Columns.{ColumnsBelow}
+use Rattle.aqe_expr.specs.Below.{ColumnsBelow}
 use Rattle.aqe_logical.specs.declared.plan.Logical.{Logical}
 use Rattle.aqe_logical.specs.WellFormed.{IsLimitCount, IsLimitNumber}
 use Rattle.aqe_trees.specs.declared.expression.OrTree.{OrTree}

@@ -5,7 +5,7 @@ use Rattle.std.proofs.lemmas.List.Elements.{All-nil, All-cons, All-head, All-tai
 use Rattle.aqe_base.specs.declared.status.AnalysisKind.TheVariants.{NoSuchColumn}
 use Rattle.aqe_expr.specs.declared.expr.BinaryOp.TheVariants as binary
 use Rattle.aqe_expr.specs.declared.expr.Expr.{Column}
-use Rattle.aqe_expr.specs.Columns.{ColumnsBelow}
+use Rattle.aqe_expr.specs.Below.{ColumnsBelow}
 use Rattle.aqe_logical.specs.declared.plan.AggFun.{AggFun}
 use Rattle.aqe_logical.specs.declared.plan.AggFun.TheVariants.{Count}
 use Rattle.aqe_rules.specs.Outcomes.{refused, Outcome, upon, each, the_only}

@@ -6,7 +6,7 @@ use Rattle.std.proofs.lemmas.List.Elements.{All-nil, All-cons, All-head, All-tai
 use Rattle.aqe_base.specs.declared.join_kind.JoinKind.{JoinKind}
 use Rattle.aqe_base.specs.declared.join_kind.JoinKind.TheVariants.{Cross}
 use Rattle.aqe_values.specs.declared.schema.Field.{Field}
-use Rattle.aqe_expr.specs.Columns.{ColumnsBelow}
+use Rattle.aqe_expr.specs.Below.{ColumnsBelow}
 use Rattle.aqe_logical.specs.declared.plan.Logical.{Logical, Scan}
 use Rattle.aqe_logical.specs.Shapes.{filtered, joined}
 use Rattle.aqe_logical.specs.Columns.{schema_of, width, shows_right}

@@ -5,7 +5,7 @@ use Rattle.aqe_base.specs.declared.status.AnalysisKind.TheVariants.{UnionWidth}
 use Rattle.aqe_values.specs.declared.schema.Field.{Field}
 use Rattle.aqe_values.specs.declared.sql_type.SqlType.{SqlType}
 use Rattle.aqe_expr.specs.declared.expr.Expr.{Column}
-use Rattle.aqe_expr.specs.Columns.{ColumnsBelow}
+use Rattle.aqe_expr.specs.Below.{ColumnsBelow}
 use Rattle.aqe_logical.specs.declared.plan.Logical.{Logical}
 use Rattle.aqe_logical.specs.Shapes.{projected, united}
 use Rattle.aqe_logical.specs.Columns.{schema_of, width}

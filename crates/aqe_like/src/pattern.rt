@@ -2,7 +2,7 @@
 
 ghost use Rattle.std.specs.Prelude.{◌≡◌, ◌<◌, [], ◌∷◌, length, MatchOption, chars, ⊤};
 ghost use Rattle.aqe_like.specs.Patterns.{items, allows, like};
-ghost use Rattle.aqe_like.specs.Laying.{Says};
+ghost use Rattle.aqe_like.specs.Laying.{Laid};
 
 use crate::search::next_place;
 use aqe_values::Text;
@@ -62,7 +62,7 @@ pub fn likes(text: &Text, pattern: &Text) -> bool
 
 /// Lays the items in front of the pattern's first `%` over the front of the text.
 fn laid<'a>(text: &'a str, pattern: &'a str) -> Fit<'a>
-    ensures { Says text.now pattern.now result }
+    ensures { Laid text.now pattern.now result }
 {
     let mut place = text;
     let mut left = pattern;

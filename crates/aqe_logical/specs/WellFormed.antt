@@ -1,7 +1,7 @@
 -- Which plans are closed, and which are well formed.
 use Rattle.std.specs.Prelude.{◌≡◌, ℕ, ◌+◌, ◌<◌, ◌≤◌, ◌^◌, List, length, All, Option, Some, None}
 use Rattle.aqe_expr.specs.declared.expr.Expr.{Expr}
-use Rattle.aqe_expr.specs.Columns.{ColumnsBelow}
+use Rattle.aqe_expr.specs.Below.{ColumnsBelow}
 use Rattle.aqe_logical.specs.declared.plan.AggCall.{AggCall}
 use Rattle.aqe_logical.specs.declared.plan.SortKey.{SortKey}
 use Rattle.aqe_logical.specs.declared.plan.Placement.{Placement}

@@ -10,7 +10,7 @@ use Rattle.aqe_expr.specs.declared.expr.Expr.{Expr, Column, Literal, Coalesce}
 use Rattle.aqe_expr.specs.declared.expr.Operands as list
 use Rattle.aqe_expr.specs.declared.expr.CasePairs as pairs
 use Rattle.aqe_expr.specs.Shapes.{unary_of, binary_of, between_of, one_of, case_of, switch_of, operand, pair}
-use Rattle.aqe_expr.specs.Columns.{ColumnsBelow, EachBelow, PairsBelow}
+use Rattle.aqe_expr.specs.Below.{ColumnsBelow, EachBelow, PairsBelow}
 use Rattle.aqe_expr.specs.Truths.{truth_value, between, either, equals, is_true, is_known_true, is_null}
 use Rattle.aqe_expr.specs.Meaning.{val, unary_value, binary_value, in_list, first_true, first_equal, first_present}
 use Rattle.aqe_rules.specs.Outcomes.{Outcome, upon}

@@ -8,7 +8,7 @@ use Rattle.aqe_values.specs.declared.value.Value.TheVariants.{Null}
 use Rattle.aqe_values.specs.declared.sql_type.SqlType.{SqlType}
 use Rattle.aqe_values.specs.declared.schema.Field.{Field}
 use Rattle.aqe_expr.specs.declared.expr.Expr.{Expr}
-use Rattle.aqe_expr.specs.Columns.{ColumnsBelow}
+use Rattle.aqe_expr.specs.Below.{ColumnsBelow}
 use Rattle.aqe_expr.specs.Meaning.{val}
 use Rattle.aqe_logical.specs.Groups.{row_of, call_value}
 use Rattle.aqe_rules.specs.Outcomes.{Outcome}
