@@ -1,5 +1,5 @@
 -- What a part of a plan is computed from.
-use Rattle.std.specs.Prelude.{ℕ, zero, suc, ◌<◌, ◌-◌, nat_lt, cond, Some, List, [], ◌∷◌, ◌++◌, flat_map, All}
+use Rattle.std.specs.Prelude.{ℕ, zero, suc, ◌≡◌, ◌<◌, ◌≤◌, ◌-◌, nat_lt, cond, Some, None, slice_index_or, List, [], ◌∷◌, ◌++◌, flat_map, All}
 use Rattle.std.specs.List.{range_with_len}
 use Rattle.aqe_base.specs.declared.stage_id.StageId.{StageId}
 use Rattle.aqe_base.specs.declared.cells.Rect.{Rect}
@@ -14,6 +14,7 @@ use Rattle.aqe_physical.specs.declared.plan.Plan.{Plan, Read, ReadBroadcast}
 use Rattle.aqe_physical.specs.Shapes.{kept, mapped, moved, matched, grouped, finished, ordered, cut_locally, cut_globally, both_of}
 use Rattle.aqe_physical.specs.Nodes.{nodes}
 use Rattle.aqe_physical.specs.Counts.{part_count}
+use Rattle.aqe_stages.specs.Stages.{Given, output_of}
 
 -- a task needs some maps of a stage, from one up to another, or all of them
 pub data Need : Type 0 where
@@ -65,6 +66,21 @@ needs leaf k = []
 abbrev pub task_needs : StageKind → Plan → ℕ → List Need
 task_needs (kind.Shuffle target) body k = sample_needs target ++ needs body k
 task_needs kind body k = needs body k
+
+-- two lists of what stages hold agree on what is needed
+abbrev pub Agrees : Given → Given → Need → Type 0
+Agrees given other (some_maps stage from to) =
+    (m : ℕ) → from ≤ m → m < to → slice_index_or (output_of given stage) m [] ≡ slice_index_or (output_of other stage) m []
+Agrees given other (all_maps stage) = output_of given stage ≡ output_of other stage
+
+-- a range that names no sample takes its bounds from all parts of the body
+abbrev pub NamesSample : Target → Type 0
+NamesSample (Range keys n None) = ⊥
+NamesSample target = Unit {0}
+
+abbrev pub KindNamesSample : StageKind → Type 0
+KindNamesSample (kind.Shuffle target) = NamesSample target
+KindNamesSample other = Unit {0}
 
 -- a plan reads stages below a number alone
 abbrev pub SampleBelow : ℕ → Target → Type 0
