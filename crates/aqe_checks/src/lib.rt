@@ -4,11 +4,19 @@
 #![tactic(auto)]
 
 #[cfg(test)]
+mod cells;
+#[cfg(test)]
+mod groups;
+#[cfg(test)]
 mod outside;
+#[cfg(test)]
+mod physical;
 #[cfg(test)]
 mod placing;
 #[cfg(test)]
 mod plans;
+#[cfg(test)]
+mod rows;
 #[cfg(test)]
 mod runs;
 #[cfg(test)]
