@@ -14,7 +14,8 @@ use Rattle.aqe_logical.specs.Answers.{Row, Tables, at_most_rows}
 use Rattle.aqe_logical.specs.Groups.{row_of, finish_rows}
 use Rattle.aqe_logical.specs.Order.{before}
 use Rattle.aqe_places.specs.Places.{by_range, exchanged}
-use Rattle.aqe_places.specs.Sorting.{stable_sort, key_of}
+use Rattle.aqe_logical.specs.Order.{key_of}
+use Rattle.aqe_places.specs.Sorting.{stable_sort}
 use Rattle.aqe_places.specs.Samples.{bounds}
 use Rattle.aqe_partial.specs.PartialRows.{joined_parts, partial_rows}
 use Rattle.aqe_physical.specs.declared.target.Target.{Target}
