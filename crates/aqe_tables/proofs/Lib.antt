@@ -1,6 +1,3 @@
-pub mod FieldFacts
-pub mod RecordFacts
-pub mod RowFacts
 pub mod NameFacts
 pub mod FolderFacts
 pub mod LoadFacts

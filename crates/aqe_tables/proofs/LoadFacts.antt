@@ -13,12 +13,12 @@ use Rattle.aqe_tables.specs.declared.fault.LoadFault.{LoadFault}
 use Rattle.aqe_tables.specs.declared.fault.LoadFault.TheVariants as fault
 use Rattle.aqe_tables.specs.declared.load.LoadedFile.{LoadedFile}
 use Rattle.aqe_tables.specs.declared.loaded.Table.{Table}
-use Rattle.aqe_tables.specs.FileRows.{file_rows, row_of}
+use Rattle.aqe_records.specs.FileRows.{file_rows, row_of}
 use Rattle.aqe_tables.specs.Folder.{AreDataNames, DataFile, bytes_of, names_of, path_of}
 use Rattle.aqe_tables.specs.Load.{AreGood, AreWide, FileCause, HasBadFile, IsGood, IsShaped, IsTableOf, LoadCause, StopsAt, files_limit, is_excuse, or_one_empty}
 use Rattle.aqe_tables.specs.Reading.{AreRead, HaveNames, IsRead, NotAllRead, NotListed, NotRead, ReadUpTo, Unless}
 use Rattle.aqe_tables.proofs.FolderFacts.{contents}
-use Rattle.aqe_tables.proofs.RowFacts.{length-row_of}
+use Rattle.aqe_records.proofs.RowFacts.{length-row_of}
 
 -- each row has a value for each column
 pub rows_wide : (columns : List Field) (read : List (List (List ℕ))) → AreWide (length columns) (map (row_of columns) read)

@@ -9,7 +9,7 @@ use Rattle.aqe_trees.specs.declared.statement.TableForm.{TableForm}
 use Rattle.aqe_tables.specs.declared.catalog.CatalogTable.{CatalogTable}
 use Rattle.aqe_tables.specs.declared.catalog.CreateFault.{CreateFault}
 use Rattle.aqe_tables.specs.declared.catalog.CreateFault.TheVariants as fault
-use Rattle.aqe_tables.specs.declared.form.FileForm.{FileForm}
+use Rattle.aqe_records.specs.declared.form.FileForm.{FileForm}
 use Rattle.aqe_tables.specs.Options.{bad_key, has_header, separator_of}
 
 -- a table or an operator has at most so many columns

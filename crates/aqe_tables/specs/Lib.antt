@@ -1,6 +1,4 @@
 -- what is to be believed, in the order to read it
-pub mod Fields
-pub mod FileRows
 pub mod Options
 pub mod Catalog
 pub mod Folder
@@ -11,5 +9,4 @@ pub mod Laws
 -- what serves private functions, invariants and their proofs
 pub mod Widths
 pub mod Index
-pub mod Records
 pub mod Reading

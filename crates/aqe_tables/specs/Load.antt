@@ -7,9 +7,9 @@ use Rattle.aqe_store.specs.Files.{Entries, IsFolder}
 use Rattle.aqe_tables.specs.declared.catalog.CatalogTable.{CatalogTable}
 use Rattle.aqe_tables.specs.declared.fault.LoadFault.{LoadFault}
 use Rattle.aqe_tables.specs.declared.fault.LoadFault.TheVariants as fault
-use Rattle.aqe_tables.specs.declared.form.FileForm.{FileForm}
+use Rattle.aqe_records.specs.declared.form.FileForm.{FileForm}
 use Rattle.aqe_tables.specs.declared.loaded.Table.{Table}
-use Rattle.aqe_tables.specs.FileRows.{IsRefused, file_rows}
+use Rattle.aqe_records.specs.FileRows.{IsRefused, file_rows}
 use Rattle.aqe_tables.specs.Folder.{AreDataFiles, AreDataNames, DataFile, bytes_of}
 
 -- a table has at most so many data files, and all loaded tables together have at most so many bytes: 128 MiB

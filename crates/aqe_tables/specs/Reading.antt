@@ -6,7 +6,7 @@ use Rattle.aqe_tables.specs.declared.catalog.CatalogTable.{CatalogTable}
 use Rattle.aqe_tables.specs.declared.fault.LoadFault.{LoadFault}
 use Rattle.aqe_tables.specs.declared.load.LoadedFile.{LoadedFile}
 use Rattle.aqe_tables.specs.declared.loaded.Table.{Table}
-use Rattle.aqe_tables.specs.FileRows.{file_rows}
+use Rattle.aqe_records.specs.FileRows.{file_rows}
 use Rattle.aqe_tables.specs.Folder.{AreHeld, DataFile, bytes_of, names_of, path_of}
 use Rattle.aqe_tables.specs.Load.{AreGood, FileCause, IsGood, LoadCause, StopsAt, is_excuse}
 

@@ -9,9 +9,9 @@ ghost use Rattle.aqe_tables.specs.Loaded.{AreShaped, Slots};
 ghost use Rattle.aqe_tables.specs.declared.catalog.CreateFault.TheVariants as fault;
 
 use crate::columns::{copy_columns, repeated_name};
-use crate::form::FileForm;
 use crate::index::{NameIndex, name_hash};
 use crate::options::{bad_key, has_header, is_same_word, separator_of};
+use aqe_records::FileForm;
 use aqe_trees::TableForm;
 use aqe_values::{Memory, Schema, Text};
 use std::alloc::Global;

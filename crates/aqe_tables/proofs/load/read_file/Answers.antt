@@ -1,4 +1,4 @@
-use Rattle.aqe_tables.specs.FileRows.{data_records, file_records}
+use Rattle.aqe_records.specs.FileRows.{data_records, file_records}
 use Rattle.aqe_tables.proofs.LoadFacts.{rows_wide}
 use Rattle.aqe_tables.proofs.load.read_file.Goals as goal
 

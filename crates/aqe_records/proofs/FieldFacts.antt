@@ -11,7 +11,7 @@ use Rattle.std.proofs.lemmas.Bool.{ltb-true, lt-ltb}
 use Rattle.std.proofs.lemmas.Bool.Decides.{Decides-and, Decides-ltb}
 use Rattle.std.proofs.lemmas.Slice.Eq.{bytes_eq-Decides}
 use Rattle.aqe_values.specs.declared.value.Value.TheVariants as value
-use Rattle.aqe_tables.specs.Fields.{big_int_value, boolean_value, int_value, is_big_int, is_int, is_whole_number}
+use Rattle.aqe_records.specs.Fields.{big_int_value, boolean_value, int_value, is_big_int, is_int, is_whole_number}
 
 -- a test whose fact fails is false
 pub false_where_not : {P : Type 0} (r : Bool) → Decides r P → ¬ P → r ≡ false

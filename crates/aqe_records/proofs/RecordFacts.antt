@@ -9,13 +9,13 @@ use Rattle.csv.specs.declared.error.ErrorKind.TheVariants as kind
 use Rattle.csv.specs.declared.reader.Reader.{Reader}
 use Rattle.csv.proofs.ReadFacts.{reached-more}
 use Rattle.aqe_values.specs.Bounds.{text_limit}
-use Rattle.aqe_tables.specs.declared.records.FileFail.TheVariants as fail
+use Rattle.aqe_records.specs.declared.records.FileFail.TheVariants as fail
 use Rattle.std.specs.Prelude.{map}
 use Rattle.std.proofs.lemmas.List.{map-append}
 use Rattle.aqe_values.specs.declared.schema.Field.{Field}
 use Rattle.aqe_values.specs.declared.value.Value.{Value}
-use Rattle.aqe_tables.specs.FileRows.{IsRefused, data_records, file_config, row_of}
-use Rattle.aqe_tables.specs.Records.{AreShort, AreTexts, awaits_header, fail_of}
+use Rattle.aqe_records.specs.FileRows.{IsRefused, data_records, file_config, row_of}
+use Rattle.aqe_records.specs.Records.{AreShort, AreTexts, awaits_header, fail_of}
 use Rattle.csv.specs.declared.parser.Config.{Config}
 use Rattle.csv.specs.declared.parser.Terminator.{Terminator}
 use Rattle.csv.specs.declared.parser.Terminator.TheVariants as term

@@ -1,6 +1,6 @@
 use Rattle.std.proofs.Math.Facts.{to_z-of_z}
-use Rattle.aqe_tables.proofs.FieldFacts.{int_not_read, int_read}
-use Rattle.aqe_tables.proofs.field.int_of.Goals as goal
+use Rattle.aqe_records.proofs.FieldFacts.{int_not_read, int_read}
+use Rattle.aqe_records.proofs.field.int_of.Goals as goal
 
 pub returns-in-Ok : goal.returns-in-Ok
 returns-in-Ok c =

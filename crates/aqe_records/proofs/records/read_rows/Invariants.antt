@@ -3,9 +3,9 @@ use Rattle.std.proofs.Common.{◌≡◌, ℕ, List, Some, map, true}
 use Rattle.csv.specs.Reading.{Reached, Ready, source_of, strip_bom}
 use Rattle.csv.specs.declared.parser.State.TheVariants as st
 use Rattle.csv.specs.declared.reader.Trim.TheVariants as trim
-use Rattle.aqe_tables.specs.FileRows.{data_records, file_config, row_of}
-use Rattle.aqe_tables.specs.Records.{AreTexts, awaits_header}
-use Rattle.aqe_tables.proofs.records.read_rows.Given as goal
+use Rattle.aqe_records.specs.FileRows.{data_records, file_config, row_of}
+use Rattle.aqe_records.specs.Records.{AreTexts, awaits_header}
+use Rattle.aqe_records.proofs.records.read_rows.Given as goal
 
 abbrev pub invariant-records : goal.invariant-records
 invariant-records l =

@@ -2,8 +2,8 @@ use Rattle.std.proofs.Common.{◌∙◌, sym, ap, length, arith, take, rules}
 use Rattle.std.proofs.lemmas.List.{length-take}
 use Rattle.csv.specs.Records.{fields_of}
 use Rattle.aqe_values.specs.declared.schema.Field.{Field}
-use Rattle.aqe_tables.proofs.RowFacts.{field_at-short, length-row_of, row_of-take}
-use Rattle.aqe_tables.proofs.records.row_of.Goals as goal
+use Rattle.aqe_records.proofs.RowFacts.{field_at-short, length-row_of, row_of-take}
+use Rattle.aqe_records.proofs.records.row_of.Goals as goal
 
 pub cell_of-requires : goal.cell_of-requires
 cell_of-requires c x e =

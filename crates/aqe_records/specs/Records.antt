@@ -7,9 +7,9 @@ use Rattle.aqe_values.specs.Bounds.{text_limit}
 use Rattle.aqe_values.specs.declared.sql_type.SqlType.{SqlType}
 use Rattle.aqe_values.specs.declared.value.Value.{Value}
 use Rattle.aqe_values.specs.declared.value.Value.TheVariants as value
-use Rattle.aqe_tables.specs.declared.records.FileFail.{FileFail}
-use Rattle.aqe_tables.specs.declared.records.FileFail.TheVariants as fail
-use Rattle.aqe_tables.specs.Fields.{field_value}
+use Rattle.aqe_records.specs.declared.records.FileFail.{FileFail}
+use Rattle.aqe_records.specs.declared.records.FileFail.TheVariants as fail
+use Rattle.aqe_records.specs.Fields.{field_value}
 
 -- An error of the reader refuses the file, but for want of memory, and but for a failure of what lies below the
 -- reader, which bytes in memory never give.

@@ -3,8 +3,8 @@
 ghost use Rattle.std.specs.Prelude.{◌≡◌, ◌≤◌, length, IfOk};
 ghost use Rattle.std.specs.Option.{ForSome, option_map};
 ghost use Rattle.aqe_values.specs.Bounds.{text_limit};
-ghost use Rattle.aqe_tables.specs.Fields.{big_int_value, boolean_value, field_value, int_value};
-ghost use Rattle.aqe_tables.specs.Records.{cell_value};
+ghost use Rattle.aqe_records.specs.Fields.{big_int_value, boolean_value, field_value, int_value};
+ghost use Rattle.aqe_records.specs.Records.{cell_value};
 
 use aqe_values::{Memory, SqlType, Text, Value};
 use std::alloc::Global;

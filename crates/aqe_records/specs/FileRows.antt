@@ -8,8 +8,8 @@ use Rattle.csv.specs.declared.parser.State.TheVariants as st
 use Rattle.aqe_values.specs.declared.schema.Field.{Field}
 use Rattle.aqe_values.specs.declared.value.Value.{Value}
 use Rattle.aqe_values.specs.declared.value.Value.TheVariants as value
-use Rattle.aqe_tables.specs.declared.form.FileForm.{FileForm}
-use Rattle.aqe_tables.specs.Fields.{field_value}
+use Rattle.aqe_records.specs.declared.form.FileForm.{FileForm}
+use Rattle.aqe_records.specs.Fields.{field_value}
 
 -- How a file is cut into fields: at the separator. In a field between `"` a `""` stands for `"`, and a `\` and a byte
 -- for that byte.

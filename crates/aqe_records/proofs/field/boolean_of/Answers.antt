@@ -1,6 +1,6 @@
-use Rattle.aqe_tables.proofs.FieldFacts.{is_false, is_neither, is_true}
+use Rattle.aqe_records.proofs.FieldFacts.{is_false, is_neither, is_true}
 use Rattle.std.proofs.Common.{false, true, ◌≡◌, refl}
-use Rattle.aqe_tables.proofs.field.boolean_of.Goals as goal
+use Rattle.aqe_records.proofs.field.boolean_of.Goals as goal
 
 pub returns-then-eq_ignore_ascii_case : goal.returns-then-eq_ignore_ascii_case
 returns-then-eq_ignore_ascii_case c = is_true c.args.field.now (c.if-eq_ignore_ascii_case.ensures.test.0 refl)

@@ -4,8 +4,8 @@ use Rattle.csv.specs.Records.{field_at}
 use Rattle.aqe_values.specs.Bounds.{text_limit}
 use Rattle.aqe_values.specs.declared.schema.Field.{Field}
 use Rattle.aqe_values.specs.declared.value.Value.{Value}
-use Rattle.aqe_tables.specs.FileRows.{row_of}
-use Rattle.aqe_tables.specs.Records.{AreShort, cell_value}
+use Rattle.aqe_records.specs.FileRows.{row_of}
+use Rattle.aqe_records.specs.Records.{AreShort, cell_value}
 
 -- the row of one column more
 row_of-suc : (columns : List Field) (fields : List (List ℕ)) (i : ℕ) (d : Field) → i < length columns

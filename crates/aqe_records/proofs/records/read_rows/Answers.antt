@@ -3,10 +3,10 @@ use Rattle.csv.specs.Reading.{Reached, strip_bom}
 use Rattle.csv.specs.Records.{fields_of}
 use Rattle.csv.specs.declared.parser.State.TheVariants as st
 use Rattle.csv.proofs.ReadFacts.{rows-end, rows-more}
-use Rattle.aqe_tables.specs.FileRows.{file_config, row_of}
-use Rattle.aqe_tables.specs.Records.{AreTexts}
-use Rattle.aqe_tables.proofs.RecordFacts.{all_taken, awaited_more, fields_short, no_rows, records_reached, refused_cause, rows_added, texts_more}
-use Rattle.aqe_tables.proofs.records.read_rows.Goals as goal
+use Rattle.aqe_records.specs.FileRows.{file_config, row_of}
+use Rattle.aqe_records.specs.Records.{AreTexts}
+use Rattle.aqe_records.proofs.RecordFacts.{all_taken, awaited_more, fields_short, no_rows, records_reached, refused_cause, rows_added, texts_more}
+use Rattle.aqe_records.proofs.records.read_rows.Goals as goal
 
 pub records-init : goal.records-init
 unfolding Reached AreTexts

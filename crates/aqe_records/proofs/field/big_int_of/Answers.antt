@@ -1,6 +1,6 @@
 use Rattle.std.proofs.Math.Facts.{to_z-of_z}
-use Rattle.aqe_tables.proofs.FieldFacts.{big_int_not_read, big_int_read}
-use Rattle.aqe_tables.proofs.field.big_int_of.Goals as goal
+use Rattle.aqe_records.proofs.FieldFacts.{big_int_not_read, big_int_read}
+use Rattle.aqe_records.proofs.field.big_int_of.Goals as goal
 
 pub returns-in-Ok : goal.returns-in-Ok
 returns-in-Ok c =

@@ -4,9 +4,9 @@ ghost use Rattle.std.specs.Prelude.{◌≡◌, ◌≤◌, ◌∷◌, ◌++◌, [
 ghost use Rattle.csv.specs.Reading.{error_kind};
 ghost use Rattle.csv.specs.Records.{fields_of};
 ghost use Rattle.aqe_values.specs.Bounds.{row_limit, text_limit};
-ghost use Rattle.aqe_tables.specs.FileRows.{IsRefused, file_rows, row_of as record_row};
-ghost use Rattle.aqe_tables.specs.Records.{AreShort, fail_of as fail_of_kind};
-ghost use Rattle.aqe_tables.specs.declared.records.FileFail.TheVariants as fail;
+ghost use Rattle.aqe_records.specs.FileRows.{IsRefused, file_rows, row_of as record_row};
+ghost use Rattle.aqe_records.specs.Records.{AreShort, fail_of as fail_of_kind};
+ghost use Rattle.aqe_records.specs.declared.records.FileFail.TheVariants as fail;
 
 use crate::field::cell_of;
 use crate::form::FileForm;
@@ -16,7 +16,7 @@ use std::alloc::Global;
 
 /// Why a file gives no rows.
 #[derive(Clone, Copy, Debug, PartialEq, Eq, Drop)]
-pub(crate) enum FileFail {
+pub enum FileFail {
     /// The reader of CSV refuses a record.
     Refused,
     /// An allocation failed.
@@ -78,7 +78,7 @@ fn fail_of(error: &Error) -> FileFail
 /// The rows of a file's records under the form of its table, as Spark reads a file of CSV.
 ///
 /// The records are read one after the other into the same room, and each row is made once.
-pub(crate) fn read_rows(alloc: Global, form: &FileForm, bytes: &[u8]) -> Result<Rows, FileFail>
+pub fn read_rows(alloc: Global, form: &FileForm, bytes: &[u8]) -> Result<Rows, FileFail>
     requires width { length form.now.schema ≤ row_limit }
     requires size { length bytes.now ≤ text_limit }
     ensures rows { IfOk result (λ rows. rows ≡ file_rows form.now bytes.now) }
