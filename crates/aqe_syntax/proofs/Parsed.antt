@@ -1,5 +1,5 @@
 -- The causes of a source's faults.
-use Rattle.std.proofs.Common.{ℕ, List, [], ◌∷◌, ◌≡◌, ◌≤◌, ◌<◌, ◌↔◌, Bool, true, false, IsTrue, inl, inr, length, refl, sym, subst, arith, Result, Ok, Err, MatchResult}
+use Rattle.std.proofs.Common.{ℕ, List, [], ◌∷◌, ◌≡◌, subst, arith}
 use Rattle.std.specs.Prelude.{Any}
 use Rattle.aqe_lexer.specs.declared.token.Token.{Token}
 use Rattle.aqe_trees.specs.declared.statement.Stmt.{Stmt}
@@ -8,7 +8,7 @@ use Rattle.aqe_script.specs.Depth.{IsTooOpen}
 use Rattle.aqe_script.proofs.AnyLemmas.{any_here, any_later, any_rest}
 use Rattle.aqe_syntax.specs.declared.fault.SyntaxFault.{SyntaxFault}
 use Rattle.aqe_syntax.specs.declared.fault.SyntaxFault.TheVariants as syntax
-use Rattle.aqe_syntax.specs.Causes.{IsNoScript, IsTooNested, IsTaken, IsCause}
+use Rattle.aqe_syntax.specs.Causes.{IsNoScript, IsTooNested, IsCause}
 
 -- the statements that are passed are flat
 pub record FlatSoFar (whole left : List Stmt) : Type 0 where

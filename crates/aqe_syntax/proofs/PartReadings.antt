@@ -1,8 +1,6 @@
 -- The parts of a query that hold no query: what was read is the one reading.
-use Rattle.std.proofs.Common.{ℕ, List, [], ◌∷◌, Bool, true, false, ◌≡◌, ◌≤◌, ◌<◌, length, suc, refl, ap, arith, lit<}
+use Rattle.std.proofs.Common.{ℕ, List, [], ◌∷◌, Bool, true, false, ◌≡◌, ◌≤◌, ◌<◌, refl, ap, arith, lit<}
 use Rattle.std.specs.Prelude.{Option, Some, None, codes}
-use Rattle.aqe_base.specs.declared.join_kind.JoinKind.{JoinKind}
-use Rattle.aqe_base.specs.declared.join_kind.JoinKind.TheVariants as kind
 use Rattle.aqe_trees.specs.declared.terminal.Key.{Key}
 use Rattle.aqe_trees.specs.declared.terminal.Key.TheVariants as k
 use Rattle.aqe_trees.specs.declared.terminal.Terminal.{Terminal}
@@ -13,11 +11,11 @@ use Rattle.aqe_trees.specs.declared.query.ItemTree.TheVariants as item
 use Rattle.aqe_trees.specs.declared.query.SortTree.{SortTree}
 use Rattle.aqe_trees.specs.Shapes.{sort_tree}
 use Rattle.aqe_trees.specs.Words.{is_word, nulls_of}
-use Rattle.aqe_trees.specs.Follow.{key_binds, binds_at, Stops}
+use Rattle.aqe_trees.specs.Follow.{key_binds, Stops}
 use Rattle.aqe_trees.specs.Expressions.{IsOr, IsList}
 use Rattle.aqe_trees.specs.Lists.{Listed, IsClause, no_clause, clause, IsBound, no_bound, bound, IsAlias, no_alias, alias, as_alias, IsDistinct, unsaid, all, distinct}
-use Rattle.aqe_trees.specs.Queries.{IsItem, all_columns, all_columns_of, one_column, IsWay, usual_way, ascending, descending, IsNulls, usual_nulls, nulls, IsSort, sort_of, IsOrder, unordered, ordered, IsGroup, ungrouped, grouped, IsKind, join, inner, cross, left, left_outer, right, right_outer, full, full_outer, semi, left_semi, anti, left_anti}
-use Rattle.aqe_trees.proofs.OneQuery.{no_dot, clause_stop, bound_stop, alias_stop, no_or_star}
+use Rattle.aqe_trees.specs.Queries.{IsItem, all_columns, all_columns_of, one_column, IsWay, usual_way, ascending, descending, IsNulls, usual_nulls, nulls, IsSort, sort_of, IsOrder, unordered, ordered, IsGroup, ungrouped, grouped}
+use Rattle.aqe_trees.proofs.OneQuery.{no_dot, alias_stop, no_or_star}
 use Rattle.aqe_reader.specs.Reading.{Read, Refuses, Part}
 use Rattle.aqe_syntax.proofs.Chain.{moved}
 

@@ -1,6 +1,6 @@
 -- The rules that hold queries: from the reading of the parts to that of the whole.
 use Rattle.std.proofs.Common.{ℕ, List, [], ◌∷◌, ◌++◌, Bool, true, false, ◌≡◌, ◌≤◌, ◌<◌, length, refl, sym, ap, subst, arith, lit<, Result, Ok, Err, MatchResult, Bor}
-use Rattle.std.specs.Prelude.{Option, Some, None}
+use Rattle.std.specs.Prelude.{Option}
 use Rattle.std.proofs.lemmas.List.{append-nil}
 use Rattle.std.proofs.Math.Seq.{append_snoc}
 use Rattle.aqe_base.specs.declared.join_kind.JoinKind.{JoinKind}
@@ -27,7 +27,7 @@ use Rattle.aqe_trees.proofs.OneQuery.{clause_stop, bound_stop, items_begin, kind
 use Rattle.aqe_reader.specs.Reading.{Read, Refuses, Part, Taken, Never, IsRefusal}
 use Rattle.aqe_reader.specs.declared.fault.ReadFault.{ReadFault}
 use Rattle.aqe_syntax.specs.Parts.{IsNested, IsTail, tail_of, IsSelected, IsStep, step_of, IsConditions, conditions_of}
-use Rattle.aqe_syntax.proofs.Chain.{moved, Chain, Step, Ends, Stuck, chain_step, chain_done, chain_refused}
+use Rattle.aqe_syntax.proofs.Chain.{moved, Chain, Step, Stuck, chain_step, chain_done, chain_refused}
 
 order_stop : {a : List SortTree} {vs us : List Terminal} → IsOrder a vs us → Stops 3 us → Stops 4 vs
 order_stop unordered s = omega arith

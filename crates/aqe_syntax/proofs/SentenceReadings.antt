@@ -1,6 +1,6 @@
 -- Statements and scripts: from the reading of the parts to that of the whole.
-use Rattle.std.proofs.Common.{ℕ, List, [], ◌∷◌, ◌++◌, Bool, true, false, ◌≡◌, ◌<◌, ◌⊎◌, inl, inr, length, refl, sym, ap, subst, arith, lit<, Result, Ok, Err, MatchResult, MatchOption, Bor}
-use Rattle.std.specs.Prelude.{Option, Some, None, All, Any, ◌≤◌}
+use Rattle.std.proofs.Common.{ℕ, List, [], ◌∷◌, ◌++◌, ◌≡◌, ◌<◌, inl, inr, length, refl, sym, subst, arith, lit<, Result, Ok, Err, MatchResult, MatchOption, Bor}
+use Rattle.std.specs.Prelude.{Option, Some, None, All, ◌≤◌}
 use Rattle.std.specs.List.{slice_index_or}
 use Rattle.std.specs.Slice.{IsItemAt}
 use Rattle.std.proofs.lemmas.List.{append-nil}
@@ -15,7 +15,6 @@ use Rattle.aqe_trees.specs.declared.query.QueryTree.{QueryTree}
 use Rattle.aqe_trees.specs.declared.query.UnionTree.{UnionTree}
 use Rattle.aqe_trees.specs.declared.query.CoreTree.{CoreTree}
 use Rattle.aqe_trees.specs.declared.statement.Stmt.{Stmt}
-use Rattle.aqe_trees.specs.declared.statement.Stmt.TheVariants as stmt
 use Rattle.aqe_trees.specs.declared.statement.TableForm.{TableForm}
 use Rattle.aqe_trees.specs.declared.statement.SetForm.{SetForm}
 use Rattle.aqe_trees.specs.Queries.{IsQuery, query_of, IsUnion, union_of, IsCore, core_paren, core_select}

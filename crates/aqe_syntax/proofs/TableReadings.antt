@@ -1,6 +1,6 @@
 -- CREATE TABLE: from the reading of the parts to that of the whole.
-use Rattle.std.proofs.Common.{ℕ, List, [], ◌∷◌, Bool, true, false, ◌≡◌, ◌<◌, ◌⊎◌, inl, inr, length, refl, sym, ◌∙◌, ap, subst, arith, lit<, Result, Ok, Err, MatchResult}
-use Rattle.std.specs.Prelude.{Option, Some, None, codes, ◌==◌}
+use Rattle.std.proofs.Common.{ℕ, List, [], ◌∷◌, Bool, true, false, ◌≡◌, ◌<◌, ◌⊎◌, inl, inr, length, refl, sym, ap, subst, arith, lit<, Result, Ok, Err, MatchResult}
+use Rattle.std.specs.Prelude.{Some, None, codes, ◌==◌}
 use Rattle.std.specs.Str.{str_to_ascii_lowercase}
 use Rattle.std.proofs.lemmas.Slice.Eq.{bytes_eq-Decides}
 use Rattle.std.proofs.lemmas.Bool.Decides.{nat_tests}
@@ -10,7 +10,7 @@ use Rattle.aqe_trees.specs.declared.terminal.Terminal.{Terminal}
 use Rattle.aqe_trees.specs.declared.terminal.Terminal.TheVariants.{Fixed, Name, Literal}
 use Rattle.aqe_trees.specs.declared.statement.TableForm.{TableForm}
 use Rattle.aqe_trees.specs.Shapes.{table_form}
-use Rattle.aqe_trees.specs.Words.{is_word, type_named, type_of, option_key_of, option_value_of}
+use Rattle.aqe_trees.specs.Words.{is_word, type_named, type_of}
 use Rattle.aqe_trees.specs.Follow.{Stops}
 use Rattle.aqe_trees.specs.Lists.{Listed}
 use Rattle.aqe_trees.specs.Tables.{IsColumn, column_of, IsOption, option_of, option_equal, IsPlace, location, options_location, location_options, IsCreate, create}

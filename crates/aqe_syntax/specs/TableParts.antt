@@ -1,5 +1,5 @@
 -- Parts of CREATE TABLE that the grammar does not name.
-use Rattle.std.specs.Prelude.{ℕ, List, [], ◌∷◌, Bool, true, false, Option, Some, None, ◌≡◌, codes}
+use Rattle.std.specs.Prelude.{ℕ, List, [], ◌∷◌, Bool, true, false, Some, ◌≡◌, codes}
 use Rattle.aqe_values.specs.declared.sql_type.SqlType.{SqlType}
 use Rattle.aqe_trees.specs.declared.terminal.Key.TheVariants as k
 use Rattle.aqe_trees.specs.declared.terminal.Terminal.{Terminal}
