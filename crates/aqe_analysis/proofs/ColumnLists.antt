@@ -1,5 +1,5 @@
 -- The columns of FROM, one more at a time.
-use Rattle.std.proofs.Common.{◌≡◌, ℕ, zero, suc, ◌+◌, List, [], ◌∷◌, ◌++◌, map, length, Option, refl, ap, sym, ◌∙◌, arith, ◌<◌, take, get_or, length-append, append_assoc, append-nil}
+use Rattle.std.proofs.Common.{◌≡◌, ℕ, suc, ◌+◌, List, [], ◌∷◌, ◌++◌, length, Option, refl, ap, sym, ◌∙◌, arith, ◌<◌, take, get_or, length-append, append_assoc, append-nil}
 use Rattle.std.proofs.lemmas.List.{take_more}
 use Rattle.aqe_values.specs.declared.schema.Field.{Field}
 use Rattle.aqe_expr.specs.declared.expr.Expr.{Column}

@@ -1,5 +1,5 @@
 -- The columns of each form of a plan, as the code makes it.
-use Rattle.std.proofs.Common.{◌≡◌, ℕ, ◌+◌, ◌<◌, ◌≤◌, max, cond, Bool, true, false, List, length, Option, Some, None, Ok, subst, sym, refl, ◌∙◌, ◌++◌}
+use Rattle.std.proofs.Common.{◌≡◌, ℕ, ◌+◌, ◌<◌, ◌≤◌, max, cond, Bool, true, false, List, length, Option, Ok, subst, sym, refl, ◌∙◌, ◌++◌}
 use Rattle.std.proofs.lemmas.Bool.{le-leb, lt-leb}
 use Rattle.std.proofs.Common.{length-append}
 use Rattle.aqe_base.specs.declared.join_kind.JoinKind.{JoinKind}

@@ -1,5 +1,5 @@
 -- The names of output columns, as the code makes them.
-use Rattle.std.proofs.Common.{◌≡◌, ◌≢◌, ℕ, zero, suc, Bool, true, false, List, [], ◌∷◌, ◌++◌, Option, Some, None, refl, ap, sym, ◌∙◌}
+use Rattle.std.proofs.Common.{◌≡◌, ◌≢◌, ℕ, zero, suc, true, false, List, [], ◌∷◌, ◌++◌, Some, None, refl}
 use Rattle.std.specs.Prelude.{codes, slice_get}
 use Rattle.std.specs.Fmt.{decimal}
 use Rattle.aqe_expr.specs.declared.expr.Expr.{Expr, Column}

@@ -10,13 +10,15 @@ ghost use Rattle.aqe_rules.specs.Sources.{from_all};
 ghost use Rattle.aqe_analysis.specs.Catalogs.{seen};
 ghost use Rattle.aqe_analysis.specs.Seen.{from_seen, SaysSeen};
 
+use crate::clauses::Clauses;
 use crate::limits::kept_within;
 use crate::scope::FromPlan;
 use crate::select::select;
 use crate::source::{one_row, query_source, table_source};
-use aqe_built::{body, clauses, only_core, only_joined, only_source};
+use aqe_built::{body, only_core, only_joined, only_source};
 use aqe_logical::Logical;
 use aqe_rules::AnalysisFault;
+use aqe_script::parts::select_parts;
 use aqe_tables::Catalog;
 use aqe_trees::{CoreTree, JoinedTree, QueryTree, SelectTree, SourceTree, UnionTree};
 use std::alloc::Global;
@@ -79,9 +81,17 @@ fn selected(alloc: Global, tree: &SelectTree, catalog: &Catalog) -> Result<Logic
     requires { IsTrue (built.is_select_built tree.now) }
     ensures { Says result (made_of_select rules tree.now (seen catalog.now) []) }
 {
-    let (list, sources, filter) = clauses(tree);
-    let plan = from(alloc, sources, catalog);
-    select(alloc, has_from(sources), list, filter, plan)
+    let (distinct, list, sources, filter, group, having) = select_parts(tree);
+    let clauses = Clauses {
+        distinct,
+        list,
+        has_from: has_from(sources),
+        filter,
+        group,
+        having,
+        sorts: &[],
+    };
+    select(alloc, &clauses, from(alloc, sources, catalog))
 }
 
 /// The plan of FROM; one row without columns where there is none.

@@ -2,9 +2,13 @@
 #![tactic(auto)]
 
 mod analysis;
+mod building;
+mod clauses;
 mod limits;
 mod output_names;
 mod outputs;
+mod pairs;
+mod plans;
 mod scope;
 mod select;
 mod source;

@@ -1,25 +1,27 @@
-//! The plan of a SELECT: WHERE, then the select list.
+//! A SELECT over its FROM, clause by clause.
 
-ghost use Rattle.std.specs.Prelude.{◌≡◌, [], ◌++◌};
+ghost use Rattle.std.specs.Prelude.{◌≡◌, []};
 ghost use Rattle.aqe_rules.specs.Faults.{Says};
 ghost use Rattle.aqe_rules.specs.Outcomes.{Outcome, upon};
-ghost use Rattle.aqe_rules.specs.Plans.{projected_to, fields_of};
 ghost use Rattle.aqe_rules.specs.Selects.{with_aliases};
 ghost use Rattle.aqe_rules.specs.Sources as sources;
 ghost use Rattle.aqe_rules.specs.Sources.{From};
-ghost use Rattle.aqe_analysis.specs.Given.{Gives};
-ghost use Rattle.aqe_analysis.specs.Plain as plain;
-ghost use Rattle.aqe_analysis.specs.Seen.{from_seen, items_seen, outputs_seen, SaysSeen};
+ghost use Rattle.aqe_analysis.specs.Clauses.{IsPlain, selected_seen, ungrouped_of, parts_of, select_of};
+ghost use Rattle.aqe_analysis.specs.Seen.{from_seen, SaysSeen};
 
+use crate::building::AsItIs;
+use crate::clauses::Clauses;
 use crate::limits::within_limits;
 use crate::outputs::{Outputs, Shown, output_columns};
+use crate::pairs::both_of;
+use crate::plans::{Selected, plan_of};
 use crate::scope::{FromPlan, columns_of};
+use aqe_base::Listing;
 use aqe_expr::Expr;
-use aqe_logical::{Exprs, Logical};
-use aqe_rules::{AnalysisFault, Named, is_truth, mismatch};
+use aqe_logical::Logical;
+use aqe_rules::{AnalysisFault, Named, Typed, is_truth, mismatch};
 use aqe_trees::{ItemTree, OrTree};
 use aqe_typing::value_with_aliases;
-use aqe_values::{Field, Schema};
 use std::alloc::Global;
 
 /// A condition, which names of columns and aliases of the select list may stand in.
@@ -59,78 +61,73 @@ fn kept(
     }
 }
 
-/// The expressions of output columns, and their fields.
-fn expressions(alloc: Global, outputs: Outputs) -> Result<(Exprs, Schema), AnalysisFault>
-    ensures { Gives result (λ r. (r.0 ≡ plain.exprs_of (outputs_seen outputs)) × (r.1 ≡ fields_of (outputs_seen outputs))) }
+/// A SELECT that is not grouped, of the rows that WHERE keeps and the output columns, where both are there.
+fn ungrouped(
+    distinct: bool,
+    columns: Listing<Named>,
+    keys: Listing<Typed>,
+    both: Result<(Logical, Outputs), AnalysisFault>,
+) -> Result<Selected, AnalysisFault>
+    ensures { result ≡ ungrouped_of distinct columns keys both }
 {
-    let mut items = Exprs::new(alloc);
-    let mut fields = Schema::new(alloc);
-    'outputs: for output in outputs.into_vec() {
-        fields.push(Field {
-            name: output.name,
-            kind: output.value.kind,
-        })?;
-        items.push(output.value.expr)?;
+    match both {
+        Ok((below, outputs)) => Ok(Selected {
+            below,
+            columns,
+            is_grouped: false,
+            keys,
+            outputs,
+            having: None,
+            distinct,
+        }),
+        Err(fault) => Err(fault),
     }
-    Ok((items, fields))
 }
 
-/// The plan with the output columns alone.
-fn projected(alloc: Global, outputs: Outputs, below: Logical) -> Result<Logical, AnalysisFault>
-    ensures { Gives result (λ p. p ≡ projected_to (outputs_seen outputs) below) }
-{
-    let (items, schema) = expressions(alloc, outputs)?;
-    let plan = Logical::project(alloc, items, schema, below)?;
-    Ok(plan)
-}
-
-/// The plan of the select list over what WHERE keeps.
-fn listed(
-    alloc: Global,
-    shown: &Shown,
-    list: &[ItemTree],
-    below: Logical,
-) -> Result<Logical, AnalysisFault>
-    requires { shown.now.columns ≡ sources.columns_of (items_seen shown.now.items) }
-    ensures { Says result (plain.listed shown.now.has_from list.now (items_seen shown.now.items) below) }
-{
-    let outputs = output_columns(alloc, shown, list)?;
-    let plan = projected(alloc, outputs, below)?;
-    within_limits(plan)
-}
-
-/// The plan of a SELECT over its FROM.
-fn select_over(
-    alloc: Global,
-    has_from: bool,
-    list: &[ItemTree],
-    filter: &Option<OrTree>,
-    from: FromPlan,
-) -> Result<Logical, AnalysisFault>
-    ensures { Says result (plain.plain_select has_from list.now filter.now (from_seen from)) }
+/// What the clauses come to.
+fn parts(alloc: Global, clauses: &Clauses, from: FromPlan) -> Result<Selected, AnalysisFault>
+    requires { IsPlain clauses.now }
+    ensures { SaysSeen selected_seen result (parts_of clauses.now (from_seen from)) }
 {
     let FromPlan { plan, items } = from;
     let columns = columns_of(alloc, items.slice())?;
-    let below = kept(alloc, filter, columns.slice(), list, plan)?;
+    let below = kept(alloc, clauses.filter, columns.slice(), clauses.list, plan);
     let shown = Shown {
-        has_from,
+        has_from: clauses.has_from,
         items,
         columns,
+        calls: Listing::new(alloc),
     };
-    listed(alloc, &shown, list, below)
+    let outputs = output_columns(alloc, &shown, &AsItIs, clauses.list);
+    let Shown { columns, .. } = shown;
+    ungrouped(
+        clauses.distinct,
+        columns,
+        Listing::new(alloc),
+        both_of(below, outputs),
+    )
+}
+
+/// The plan of a SELECT over its FROM.
+fn select_over(alloc: Global, clauses: &Clauses, from: FromPlan) -> Result<Logical, AnalysisFault>
+    requires { IsPlain clauses.now }
+    ensures { Says result (select_of clauses.now (from_seen from)) }
+{
+    let selected = parts(alloc, clauses, from)?;
+    let plan = plan_of(alloc, selected, Listing::new(alloc))?;
+    within_limits(plan)
 }
 
 /// The plan of a SELECT whose FROM is known or refused.
 pub(crate) fn select(
     alloc: Global,
-    has_from: bool,
-    list: &[ItemTree],
-    filter: &Option<OrTree>,
+    clauses: &Clauses,
     from: Result<FromPlan, AnalysisFault>,
 ) -> Result<Logical, AnalysisFault>
+    requires { IsPlain clauses.now }
     ensures { (outcome : Outcome From) → SaysSeen from_seen from outcome →
-        Says result (upon outcome (plain.plain_select has_from list.now filter.now)) }
+        Says result (upon outcome (select_of clauses.now)) }
 {
     let from = from?;
-    select_over(alloc, has_from, list, filter, from)
+    select_over(alloc, clauses, from)
 }

@@ -10,61 +10,61 @@ use Rattle.aqe_rules.specs.declared.fault.AnalysisFault.{AnalysisFault}
 use Rattle.aqe_rules.specs.declared.names.Named.{Named}
 use Rattle.aqe_rules.specs.declared.typed.Typed.{Typed}
 use Rattle.aqe_rules.specs.Outcomes.{Outcome, refused, upon, the_only}
-use Rattle.aqe_rules.specs.Readings.{Place, Alias, alike, bears, alias_value, column_or_alias, column_named}
+use Rattle.aqe_rules.specs.Readings.{Place, Alias, Call, alike, bears, alias_value, column_or_alias, column_named}
 use Rattle.aqe_rules.specs.Expressions.{read}
 use Rattle.aqe_rules.specs.Sources.{over}
-use Rattle.aqe_rules.specs.Selects.{with_aliases, alias_of}
+use Rattle.aqe_rules.specs.Selects.{at, with_aliases, alias_of}
 use Rattle.aqe_rules.specs.Faults.{Says, Fails, Tells}
 use Rattle.aqe_rules.proofs.Steps.{memory_fails}
 use Rattle.aqe_typing.specs.Values.{value_of_or}
 use Rattle.aqe_typing.specs.Aliases.{under_aliases}
 use Rattle.aqe_typing.proofs.LevelValues.{is_read}
 
-only_meant : (name : List ℕ) (all : List Alias) → upon (the_only name all) (λ (a : Alias). a.value []) ≡ upon (the_only name (map (λ (a : Alias). a.value []) all)) (λ (o : Outcome Typed). o)
-only_meant name [] = refl
-only_meant name (a ∷ []) = refl
-only_meant name (a ∷ b ∷ all) = refl
+only_meant : (name : List ℕ) (calls : List Call) (all : List Alias) → upon (the_only name all) (λ (a : Alias). a.value calls) ≡ upon (the_only name (map (λ (a : Alias). a.value calls) all)) (λ (o : Outcome Typed). o)
+only_meant name calls [] = refl
+only_meant name calls (a ∷ []) = refl
+only_meant name calls (a ∷ b ∷ all) = refl
 
-only_under : (name : List ℕ) (columns : List Named) (trees : List OrTree) →
-    upon (the_only name (map (λ (t : OrTree). (read t (over columns)).value) trees)) (λ (o : Outcome Typed). o) ≡ upon (the_only name trees) (λ (t : OrTree). (read t (over columns)).value)
-only_under name columns [] = refl
-only_under name columns (t ∷ []) = refl
-only_under name columns (t ∷ u ∷ trees) = refl
+only_under : (name : List ℕ) (columns : List Named) (calls : List Call) (trees : List OrTree) →
+    upon (the_only name (map (λ (t : OrTree). (read t (at columns calls)).value) trees)) (λ (o : Outcome Typed). o) ≡ upon (the_only name trees) (λ (t : OrTree). (read t (at columns calls)).value)
+only_under name columns calls [] = refl
+only_under name columns calls (t ∷ []) = refl
+only_under name columns calls (t ∷ u ∷ trees) = refl
 
-with_one : (name own : List ℕ) (columns : List Named) (value : OrTree) (aliases : List Alias) (trees : List OrTree) (b : Bool) → b ≡ alike own name →
-    map (λ (a : Alias). a.value []) (filter (λ (a : Alias). alike a.name name) aliases) ≡ map (λ (t : OrTree). (read t (over columns)).value) trees →
-    map (λ (a : Alias). a.value []) (filter (λ (a : Alias). alike a.name name) (alias_of columns (tree.One value (Some own)) ++ aliases)) ≡
-    map (λ (t : OrTree). (read t (over columns)).value) (cond b (value ∷ []) [] ++ trees)
-with_one name own columns value aliases trees true e h = rw (← e) (ap (λ (os : List (Outcome Typed)). (read value (over columns)).value ∷ os) h)
-with_one name own columns value aliases trees false e h = rw (← e) h
+with_one : (name own : List ℕ) (columns : List Named) (calls : List Call) (value : OrTree) (aliases : List Alias) (trees : List OrTree) (b : Bool) → b ≡ alike own name →
+    map (λ (a : Alias). a.value calls) (filter (λ (a : Alias). alike a.name name) aliases) ≡ map (λ (t : OrTree). (read t (at columns calls)).value) trees →
+    map (λ (a : Alias). a.value calls) (filter (λ (a : Alias). alike a.name name) (alias_of columns (tree.One value (Some own)) ++ aliases)) ≡
+    map (λ (t : OrTree). (read t (at columns calls)).value) (cond b (value ∷ []) [] ++ trees)
+with_one name own columns calls value aliases trees true e h = rw (← e) (ap (λ (os : List (Outcome Typed)). (read value (at columns calls)).value ∷ os) h)
+with_one name own columns calls value aliases trees false e h = rw (← e) h
 
-same_meanings : (name : List ℕ) (columns : List Named) (list : List ItemTree) →
-    map (λ (a : Alias). a.value []) (filter (λ (a : Alias). alike a.name name) (flat_map (alias_of columns) list)) ≡ map (λ (t : OrTree). (read t (over columns)).value) (under_aliases name list)
-same_meanings name columns [] = refl
-same_meanings name columns (tree.One value (Some own) ∷ list) = with_one name own columns value (flat_map (alias_of columns) list) (under_aliases name list) (alike own name) refl (same_meanings name columns list)
-same_meanings name columns (tree.One value None ∷ list) = same_meanings name columns list
-same_meanings name columns (tree.All ∷ list) = same_meanings name columns list
-same_meanings name columns (tree.AllOf own ∷ list) = same_meanings name columns list
+same_meanings : (name : List ℕ) (columns : List Named) (calls : List Call) (list : List ItemTree) →
+    map (λ (a : Alias). a.value calls) (filter (λ (a : Alias). alike a.name name) (flat_map (alias_of columns) list)) ≡ map (λ (t : OrTree). (read t (at columns calls)).value) (under_aliases name list)
+same_meanings name columns calls [] = refl
+same_meanings name columns calls (tree.One value (Some own) ∷ list) = with_one name own columns calls value (flat_map (alias_of columns) list) (under_aliases name list) (alike own name) refl (same_meanings name columns calls list)
+same_meanings name columns calls (tree.One value None ∷ list) = same_meanings name columns calls list
+same_meanings name columns calls (tree.All ∷ list) = same_meanings name columns calls list
+same_meanings name columns calls (tree.AllOf own ∷ list) = same_meanings name columns calls list
 
 -- what an alias means, by what stands under it
-pub alias_is : (name : List ℕ) (columns : List Named) (list : List ItemTree) →
-    alias_value name (with_aliases columns list []) ≡ upon (the_only name (under_aliases name list)) (λ (t : OrTree). (read t (over columns)).value)
-alias_is name columns list =
-    only_meant name (filter (λ (a : Alias). alike a.name name) (flat_map (alias_of columns) list)) ∙
-    ap (λ (os : List (Outcome Typed)). upon (the_only name os) (λ (o : Outcome Typed). o)) (same_meanings name columns list) ∙ only_under name columns (under_aliases name list)
+pub alias_is : (name : List ℕ) (columns : List Named) (calls : List Call) (list : List ItemTree) →
+    alias_value name (with_aliases columns list calls) ≡ upon (the_only name (under_aliases name list)) (λ (t : OrTree). (read t (at columns calls)).value)
+alias_is name columns calls list =
+    only_meant name calls (filter (λ (a : Alias). alike a.name name) (flat_map (alias_of columns) list)) ∙
+    ap (λ (os : List (Outcome Typed)). upon (the_only name os) (λ (o : Outcome Typed). o)) (same_meanings name columns calls list) ∙ only_under name columns calls (under_aliases name list)
 
-pub no_alias : (name : List ℕ) (columns : List Named) (list : List ItemTree) (f : AnalysisFault) → under_aliases name list ≡ [] → Tells f (refused NoSuchColumn name) → Fails f (alias_value name (with_aliases columns list []))
-no_alias name columns list f e t = rw (alias_is name columns list, e) t
+pub no_alias : (name : List ℕ) (columns : List Named) (calls : List Call) (list : List ItemTree) (f : AnalysisFault) → under_aliases name list ≡ [] → Tells f (refused NoSuchColumn name) → Fails f (alias_value name (with_aliases columns list calls))
+no_alias name columns calls list f e t = rw (alias_is name columns calls list, e) t
 
-pub several_aliases : (name : List ℕ) (columns : List Named) (list : List ItemTree) (f : AnalysisFault) (a b : OrTree) (more : List OrTree) → under_aliases name list ≡ a ∷ b ∷ more → Tells f (refused Ambiguous name) →
-    Fails f (alias_value name (with_aliases columns list []))
-several_aliases name columns list f a b more e t = rw (alias_is name columns list, e) t
+pub several_aliases : (name : List ℕ) (columns : List Named) (calls : List Call) (list : List ItemTree) (f : AnalysisFault) (a b : OrTree) (more : List OrTree) → under_aliases name list ≡ a ∷ b ∷ more → Tells f (refused Ambiguous name) →
+    Fails f (alias_value name (with_aliases columns list calls))
+several_aliases name columns calls list f a b more e t = rw (alias_is name columns calls list, e) t
 
-pub one_alias : (name : List ℕ) (columns : List Named) (list : List ItemTree) (a : OrTree) (r : Result Typed AnalysisFault) → under_aliases name list ≡ a ∷ [] → Says r (value_of_or a (over columns)) →
-    Says r (alias_value name (with_aliases columns list []))
-one_alias name columns list a r e s =
-    let here : Says r (read a (over columns)).value = subst (λ (o : Outcome Typed). Says r o) (is_read a (over columns)) s in
-    rw (alias_is name columns list, e) here
+pub one_alias : (name : List ℕ) (columns : List Named) (calls : List Call) (list : List ItemTree) (a : OrTree) (r : Result Typed AnalysisFault) → under_aliases name list ≡ a ∷ [] → Says r (value_of_or a (at columns calls)) →
+    Says r (alias_value name (with_aliases columns list calls))
+one_alias name columns calls list a r e s =
+    let here : Says r (read a (at columns calls)).value = subst (λ (o : Outcome Typed). Says r o) (is_read a (at columns calls)) s in
+    rw (alias_is name columns calls list, e) here
 
 -- a name that some column has, and one that none has
 module _ {X : Type 0} where
@@ -90,14 +90,24 @@ module _ {X : Type 0} where
 column_is : (name : List ℕ) (p q : Place) (all : List Named) → First all → column_or_alias name p all ≡ column_or_alias name q all
 column_is name p q all (c, cs, e) = rw e refl
 
-pub column_first : (name : List ℕ) (columns : List Named) (list : List ItemTree) (r : Result Typed AnalysisFault) → list_any (bears name) columns ≡ true → Says r (column_named name (over columns)) →
-    Says r (column_named name (with_aliases columns list []))
-column_first name columns list r h s =
-    subst (λ (o : Outcome Typed). Says r o) (column_is name (over columns) (with_aliases columns list []) (filter (bears name) columns) (some_pass (bears name) columns h)) s
+pub column_first : (name : List ℕ) (columns : List Named) (calls : List Call) (list : List ItemTree) (r : Result Typed AnalysisFault) → list_any (bears name) columns ≡ true → Says r (column_named name (over columns)) →
+    Says r (column_named name (with_aliases columns list calls))
+column_first name columns calls list r h s =
+    subst (λ (o : Outcome Typed). Says r o) (column_is name (over columns) (with_aliases columns list calls) (filter (bears name) columns) (some_pass (bears name) columns h)) s
 
-pub alias_then : (name : List ℕ) (columns : List Named) (list : List ItemTree) (r : Result Typed AnalysisFault) → list_any (bears name) columns ≡ false → Says r (alias_value name (with_aliases columns list [])) →
-    Says r (column_named name (with_aliases columns list []))
-alias_then name columns list r h s =
-    subst (λ (o : Outcome Typed). Says r o) (sym (ap (column_or_alias name (with_aliases columns list [])) (none_pass (bears name) columns h))) s
+pub alias_then : (name : List ℕ) (columns : List Named) (calls : List Call) (list : List ItemTree) (r : Result Typed AnalysisFault) → list_any (bears name) columns ≡ false → Says r (alias_value name (with_aliases columns list calls)) →
+    Says r (column_named name (with_aliases columns list calls))
+alias_then name columns calls list r h s =
+    subst (λ (o : Outcome Typed). Says r o) (sym (ap (column_or_alias name (with_aliases columns list calls)) (none_pass (bears name) columns h))) s
+
+-- where there is no alias, a name means the same whatever calls may stand
+any_calls : (name : List ℕ) (columns : List Named) (calls : List Call) (all : List Named) → column_or_alias name (over columns) all ≡ column_or_alias name (at columns calls) all
+any_calls name columns calls [] = refl
+any_calls name columns calls (c ∷ cs) = refl
+
+pub column_alone : (name : List ℕ) (columns : List Named) (calls : List Call) (r : Result Typed AnalysisFault) → Says r (column_named name (over columns)) → Says r (column_named name (at columns calls))
+column_alone name columns calls r s = subst (λ (o : Outcome Typed). Says r o) (any_calls name columns calls (filter (bears name) columns)) s
 
 pub ruleset alias_steps = (memory_fails, no_alias, several_aliases, one_alias)
+
+pub ruleset column_steps = (column_alone)

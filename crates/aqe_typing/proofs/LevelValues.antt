@@ -1,10 +1,10 @@
 -- What a tree of each level comes to, from what its parts come to.
-use Rattle.std.proofs.Common.{◌≡◌, ℕ, zero, suc, Bool, true, false, List, [], ◌∷◌, map, Option, Some, None, Ok, Err, refl, ap, ◌∙◌, codes}
+use Rattle.std.proofs.Common.{◌≡◌, ℕ, zero, suc, Bool, true, false, List, [], ◌∷◌, map, Option, Some, None, length, Ok, refl, ap, sym, ◌∙◌, codes}
 use Rattle.std.specs.Prelude.{fold, option_map}
-use Rattle.aqe_base.specs.declared.status.AnalysisKind.TheVariants.{NestedAggregate}
 use Rattle.aqe_values.specs.declared.sql_type.SqlType.{SqlType}
 use Rattle.aqe_expr.specs.declared.expr.BinaryOp.TheVariants as binary
 use Rattle.aqe_logical.specs.declared.plan.AggFun.{AggFun}
+use Rattle.aqe_logical.specs.declared.plan.AggFun.TheVariants.{Count}
 use Rattle.aqe_trees.specs.declared.expression.OrTree.{OrTree}
 use Rattle.aqe_trees.specs.declared.expression.AndTree.{AndTree}
 use Rattle.aqe_trees.specs.declared.expression.NotTree.{NotTree}
@@ -24,13 +24,15 @@ use Rattle.aqe_trees.specs.declared.expression.PrimaryTree.TheVariants as primar
 use Rattle.aqe_trees.specs.declared.expression.Arm.{Arm}
 use Rattle.aqe_trees.specs.Shapes.{or_tree, and_tree, not_tree, predicate_tree, comparison_tree, sum_tree, product_tree, sign_tree, arm}
 use Rattle.aqe_rules.specs.declared.typed.Typed.{Typed}
-use Rattle.aqe_rules.specs.Outcomes.{Outcome, refused, upon, each}
+use Rattle.aqe_rules.specs.Outcomes.{Outcome, upon, each}
 use Rattle.aqe_rules.specs.Operations as operation
 use Rattle.aqe_rules.specs.Readings as reading
 use Rattle.aqe_rules.specs.Readings.{Place, Reading, readings, within_call, column_named, column_of_item, aggregate_named}
 use Rattle.aqe_rules.specs.Trees.{times, under_signs, negated_if, chain, chain_of_one, made_of, made_of_and, made_of_not, made_of_predicate, made_of_comparison, made_of_sum, made_of_product, made_of_sign, made_of_primary, made_of_arm}
 use Rattle.aqe_rules.proofs.Levels.{of_or, of_and, of_not, of_predicate, of_comparison, of_sum, of_product, of_sign, of_arm, of_number, of_literal, of_boolean, of_null, of_column, of_table_column, of_paren, of_cast, of_count_all, of_call, of_case, of_plain, of_between, of_one_of, of_like, of_is}
-use Rattle.aqe_typing.specs.Values.{value_of_or, value_of_and, value_of_not, value_of_predicate, value_of_test, value_of_comparison, value_of_sum, value_of_product, value_of_sign, value_of_primary, value_of_arm, values_of, values_of_arms, value_if_any, on_two, on_three, not_times, not_if, signed, called, case}
+use Rattle.aqe_typing.specs.Values.{value_of_or, value_of_and, value_of_not, value_of_predicate, value_of_test, value_of_comparison, value_of_sum, value_of_product, value_of_sign, value_of_primary, value_of_arm, values_of, values_of_arms, value_if_any, on_two, on_three, not_times, not_if, signed, case}
+use Rattle.aqe_typing.specs.declared.calls.Call.{Call}
+use Rattle.aqe_typing.specs.Calls.{at_calls, arguments_at, calls_within, aggregate_call, called}
 
 -- at a place
 at : {p : Place} {a b : Place → Reading} → a ≡ b → (a p).value ≡ (b p).value
@@ -210,20 +212,24 @@ module _ (p : Place) where
   unfolding value_of_arm value_of_or
   arm_value when gives = ap (λ (a : (Place → Reading) × (Place → Reading)). reading.arm_value (a.0 p, a.1 p)) (of_arm readings when gives)
 
--- calls, where no aggregate call may stand
-pub count_all_value : (p : Place) → value_of_primary primary.CountAll (within_call p) ≡ Err (refused NestedAggregate (codes "count"))
+-- calls, and where their arguments stand
+pub count_all_value : (p : Place) (n : ℕ) → n ≡ length p.columns → value_of_primary primary.CountAll p ≡ aggregate_call (codes "count") Count n p.calls reading.counted
 unfolding value_of_primary
-count_all_value p = at (of_count_all readings)
+count_all_value p n e = at (of_count_all readings) ∙ ap (λ (m : ℕ). aggregate_call (codes "count") Count m p.calls reading.counted) (sym e)
 
 called_at : (name : List ℕ) (arguments : List OrTree) (p : Place) (fun : Option AggFun) →
-    (reading.call_reading name (map (made_of readings) arguments) (within_call p) fun).value ≡ called name fun (values_of arguments (within_call p))
-called_at name arguments p (Some fun) = ap (λ (os : List (Outcome Typed)). called name (Some fun) (each os)) (at_list arguments (within_call p))
-called_at name arguments p None = ap (λ (os : List (Outcome Typed)). called name None (each os)) (at_list arguments (within_call p))
+    (reading.call_reading name (map (made_of readings) arguments) p fun).value ≡ called name fun (length p.columns) p.calls (values_of arguments (arguments_at fun p))
+called_at name arguments p (Some fun) = ap (λ (os : List (Outcome Typed)). called name (Some fun) (length p.columns) p.calls (each os)) (at_list arguments (within_call p))
+called_at name arguments p None = ap (λ (os : List (Outcome Typed)). called name None (length p.columns) p.calls (each os)) (at_list arguments p)
 
-pub call_value : (name : List ℕ) (arguments : List OrTree) (p : Place) →
-    value_of_primary (primary.Call name arguments) (within_call p) ≡ called name (aggregate_named name) (values_of arguments (within_call p))
+pub call_value : (name : List ℕ) (arguments : List OrTree) (p : Place) (fun : Option AggFun) (n : ℕ) → fun ≡ aggregate_named name → n ≡ length p.columns →
+    value_of_primary (primary.Call name arguments) p ≡ called name fun n p.calls (values_of arguments (arguments_at fun p))
 unfolding value_of_primary
-call_value name arguments p = at (of_call readings name arguments) ∙ called_at name arguments p (aggregate_named name)
+call_value name arguments p fun n e h = rw (e, h) (at (of_call readings name arguments) ∙ called_at name arguments p (aggregate_named name))
+
+pub inner_place : (fun : Option AggFun) (p : Place) (calls inner : List Call) → inner ≡ calls_within fun calls → at_calls p inner ≡ arguments_at fun (at_calls p calls)
+inner_place (Some fun) p calls inner e = ap (at_calls p) e
+inner_place None p calls inner e = ap (at_calls p) e
 
 -- the tree as a whole
 pub is_read : (tree : OrTree) (p : Place) → value_of_or tree p ≡ (made_of readings tree p).value

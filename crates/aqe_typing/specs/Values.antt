@@ -1,7 +1,5 @@
 -- What the trees of each level come to at a place, and the steps that come to it.
-use Rattle.std.specs.Prelude.{◌≡◌, ℕ, zero, suc, List, [], ◌∷◌, map, Bool, true, false, Option, Some, None, option_map, Result, Vec, Ok, Err, MatchResult}
-use Rattle.aqe_base.specs.declared.status.AnalysisKind.TheVariants.{NestedAggregate}
-use Rattle.aqe_logical.specs.declared.plan.AggFun.{AggFun}
+use Rattle.std.specs.Prelude.{◌≡◌, ℕ, zero, suc, List, [], ◌∷◌, map, Bool, true, false, Option, option_map, Result, Vec, Ok, MatchResult}
 use Rattle.aqe_trees.specs.declared.expression.OrTree.{OrTree}
 use Rattle.aqe_trees.specs.declared.expression.AndTree.{AndTree}
 use Rattle.aqe_trees.specs.declared.expression.NotTree.{NotTree}
@@ -15,11 +13,10 @@ use Rattle.aqe_trees.specs.declared.expression.SignTree.{SignTree}
 use Rattle.aqe_trees.specs.declared.expression.PrimaryTree.{PrimaryTree}
 use Rattle.aqe_trees.specs.declared.expression.Arm.{Arm}
 use Rattle.aqe_rules.specs.declared.fault.AnalysisFault.{AnalysisFault}
-use Rattle.aqe_rules.specs.Outcomes.{Outcome, refused, upon, each, if_any, provided}
+use Rattle.aqe_rules.specs.Outcomes.{Outcome, upon, each, if_any}
 use Rattle.aqe_rules.specs.Operations as operation
 use Rattle.aqe_rules.specs.declared.typed.Typed.{Typed}
-use Rattle.aqe_rules.specs.Operations.{mismatch}
-use Rattle.aqe_rules.specs.Readings.{Place, Reading, readings, arm_value, the_argument, function_value, takes}
+use Rattle.aqe_rules.specs.Readings.{Place, Reading, readings, arm_value}
 use Rattle.aqe_rules.specs.Faults.{Fails}
 use Rattle.aqe_rules.specs.Trees.{made_of, made_of_and, made_of_not, made_of_predicate, made_of_test, made_of_comparison, made_of_sum, made_of_product, made_of_sign, made_of_primary, made_of_arm}
 
@@ -87,18 +84,6 @@ not_if false a = a
 abbrev pub signed : List Sign → Outcome Typed → Outcome Typed
 signed [] a = a
 signed (sign ∷ signs) a = upon (signed signs a) (operation.signed_operation sign)
-
--- an aggregate call, which may not stand here; its argument is looked at first
-abbrev pub misplaced : List ℕ → AggFun → Typed → Outcome Typed
-misplaced name fun a = provided (takes fun a.kind) mismatch (Err (refused NestedAggregate name))
-
--- a call, by the aggregate function that its name is
-abbrev pub called : List ℕ → Option AggFun → Outcome (List Typed) → Outcome Typed
-called name (Some fun) arguments = upon (upon arguments (the_argument name)) (misplaced name fun)
-called name None arguments = upon arguments (function_value name)
-
-abbrev pub length_call : List ℕ → List Typed → Outcome Typed
-length_call name arguments = upon (the_argument name arguments) operation.length_of
 
 -- CASE
 abbrev pub case : Outcome (Option Typed) → Outcome (List (Typed × Typed)) → Outcome (Option Typed) → Outcome Typed

@@ -3,11 +3,12 @@
 ghost use Rattle.std.specs.Prelude.{◌≡◌, ◌∷◌, [], MatchOption};
 ghost use Rattle.std.specs.List.{list_any};
 ghost use Rattle.aqe_rules.specs.Readings as readings;
-ghost use Rattle.aqe_rules.specs.Sources.{over};
 ghost use Rattle.aqe_rules.specs.Selects.{with_aliases};
 ghost use Rattle.aqe_rules.specs.Faults.{Says};
+ghost use Rattle.aqe_typing.specs.Calls.{calls_seen};
 ghost use Rattle.aqe_typing.specs.Aliases.{under_alias, under_aliases};
 
+use crate::calls::Call;
 use crate::levels::or;
 use crate::names::{Columns, Names};
 use aqe_base::AnalysisKind;
@@ -26,16 +27,20 @@ pub(crate) struct WithAliases<'a> {
 impl<'a> Names for WithAliases<'a> {
     ghost place = { λ names. with_aliases names.columns.now names.list.now [] };
 
-    fn column(&self, alloc: Global, name: &Text) -> Result<Typed, AnalysisFault> {
+    fn column(&self, alloc: Global, name: &Text, calls: &[Call]) -> Result<Typed, AnalysisFault> {
         if has_column(name, self.columns) {
             column_named(alloc, name, self.columns)
         } else {
-            alias(alloc, name, self.columns, self.list)
+            alias(alloc, name, self.columns, self.list, calls)
         }
     }
 
     fn column_of(&self, alloc: Global, table: &Text, name: &Text) -> Result<Typed, AnalysisFault> {
         column_of_item(alloc, table, name, self.columns)
+    }
+
+    fn width(&self) -> usize {
+        self.columns.len()
     }
 }
 
@@ -76,21 +81,22 @@ fn first_named<'a>(name: &Text, list: &'a [ItemTree]) -> Option<(&'a OrTree, &'a
     None
 }
 
-/// What an alias means: its expression is read over the columns alone.
+/// What an alias means: its expression is read over the columns alone, where these calls may stand.
 #[tactic(auto, using(crate::proofs::AliasSteps::alias_steps))]
 fn alias(
     alloc: Global,
     name: &Text,
     columns: &[Named],
     list: &[ItemTree],
+    calls: &[Call],
 ) -> Result<Typed, AnalysisFault>
-    ensures { Says result (readings.alias_value name.now (with_aliases columns.now list.now [])) }
+    ensures { Says result (readings.alias_value name.now (with_aliases columns.now list.now (calls_seen calls.now))) }
 {
     let Some((value, behind)) = first_named(name, list) else {
         return Err(refused(alloc, AnalysisKind::NoSuchColumn, name.as_str()));
     };
     match first_named(name, behind) {
         Some(_) => Err(refused(alloc, AnalysisKind::Ambiguous, name.as_str())),
-        None => or(alloc, value, &Columns { columns }),
+        None => or(alloc, value, &Columns { columns }, calls),
     }
 }

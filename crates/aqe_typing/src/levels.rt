@@ -1,11 +1,12 @@
 //! Expressions, level by level: each operand is read, and then what stands on it.
 
 ghost use Rattle.std.specs.Prelude.{◌≡◌};
-ghost use Rattle.aqe_rules.specs.Readings.{Place, Reading, within_call};
+ghost use Rattle.aqe_rules.specs.Readings.{Place, Reading};
 ghost use Rattle.aqe_rules.specs.Faults.{Says};
+ghost use Rattle.aqe_typing.specs.Calls.{at_calls};
 ghost use Rattle.aqe_typing.specs.Values.{value_of_or, value_of_and, value_of_not, value_of_predicate, value_of_test, value_of_comparison, value_of_sum, value_of_product, value_of_sign, value_of_primary, value_of_arm, values_of, values_of_arms, value_if_any, SaysAll};
 
-use crate::calls::call;
+use crate::calls::{Call, aggregate_named, called, calls_within, counted_rows};
 use crate::cases::case;
 use crate::literals::{boolean, null, number, text};
 use crate::names::Names;
@@ -13,9 +14,8 @@ use crate::steps::{
     added, arm_of, asked, cast, compared, joined, matched, multiplied, negated_if, negated_times,
     one_of, there, under_signs, with_arm, with_one, within,
 };
-use aqe_base::AnalysisKind;
 use aqe_expr::BinaryOp;
-use aqe_rules::{AnalysisFault, Typed, refused};
+use aqe_rules::{AnalysisFault, Typed};
 use aqe_script::parts::{
     and_parts, arm_parts, comparison_parts, not_parts, or_parts, predicate_parts, product_parts,
     sign_parts, sum_parts,
@@ -29,37 +29,57 @@ use std::alloc::Global;
 
 /// Operands of OR.
 #[cycle(expression)]
-pub(crate) fn or<N: Names>(alloc: Global, tree: &OrTree, names: &N) -> Result<Typed, AnalysisFault>
-    ensures { Says result (value_of_or tree.now (within_call (N.place names.now))) }
+pub(crate) fn or<N: Names>(
+    alloc: Global,
+    tree: &OrTree,
+    names: &N,
+    calls: &[Call],
+) -> Result<Typed, AnalysisFault>
+    ensures { Says result (value_of_or tree.now (at_calls (N.place names.now) calls.now)) }
 {
     let (first, rest) = or_parts(tree);
-    let mut value = and(alloc, first, names);
+    let mut value = and(alloc, first, names, calls);
     'more: for next in rest {
-        value = joined(alloc, BinaryOp::Or, value, and(alloc, next, names));
+        value = joined(alloc, BinaryOp::Or, value, and(alloc, next, names, calls));
     }
     value
 }
 
 /// Operands of AND.
 #[cycle(expression)]
-fn and<N: Names>(alloc: Global, tree: &AndTree, names: &N) -> Result<Typed, AnalysisFault>
-    ensures { Says result (value_of_and tree.now (within_call (N.place names.now))) }
+fn and<N: Names>(
+    alloc: Global,
+    tree: &AndTree,
+    names: &N,
+    calls: &[Call],
+) -> Result<Typed, AnalysisFault>
+    ensures { Says result (value_of_and tree.now (at_calls (N.place names.now) calls.now)) }
 {
     let (first, rest) = and_parts(tree);
-    let mut value = negation(alloc, first, names);
+    let mut value = negation(alloc, first, names, calls);
     'more: for next in rest {
-        value = joined(alloc, BinaryOp::And, value, negation(alloc, next, names));
+        value = joined(
+            alloc,
+            BinaryOp::And,
+            value,
+            negation(alloc, next, names, calls),
+        );
     }
     value
 }
 
 /// A predicate under its NOTs.
 #[cycle(expression)]
-fn negation<N: Names>(alloc: Global, tree: &NotTree, names: &N) -> Result<Typed, AnalysisFault>
-    ensures { Says result (value_of_not tree.now (within_call (N.place names.now))) }
+fn negation<N: Names>(
+    alloc: Global,
+    tree: &NotTree,
+    names: &N,
+    calls: &[Call],
+) -> Result<Typed, AnalysisFault>
+    ensures { Says result (value_of_not tree.now (at_calls (N.place names.now) calls.now)) }
 {
     let (count, operand) = not_parts(tree);
-    negated_times(alloc, count, predicate(alloc, operand, names))
+    negated_times(alloc, count, predicate(alloc, operand, names, calls))
 }
 
 /// A value and what is asked of it.
@@ -68,11 +88,18 @@ fn predicate<N: Names>(
     alloc: Global,
     tree: &PredicateTree,
     names: &N,
+    calls: &[Call],
 ) -> Result<Typed, AnalysisFault>
-    ensures { Says result (value_of_predicate tree.now (within_call (N.place names.now))) }
+    ensures { Says result (value_of_predicate tree.now (at_calls (N.place names.now) calls.now)) }
 {
     let (value, asked) = predicate_parts(tree);
-    test(alloc, asked, comparison(alloc, value, names), names)
+    test(
+        alloc,
+        asked,
+        comparison(alloc, value, names, calls),
+        names,
+        calls,
+    )
 }
 
 /// A test of a value.
@@ -82,23 +109,24 @@ fn test<N: Names>(
     tree: &Test,
     value: Result<Typed, AnalysisFault>,
     names: &N,
+    calls: &[Call],
 ) -> Result<Typed, AnalysisFault>
-    ensures { (a : Place → Reading) → Says value (a (within_call (N.place names.now))).value
-        → Says result (value_of_test tree.now a (within_call (N.place names.now))) }
+    ensures { (a : Place → Reading) → Says value (a (at_calls (N.place names.now) calls.now)).value
+        → Says result (value_of_test tree.now a (at_calls (N.place names.now) calls.now)) }
 {
     match tree {
         Test::Plain => value,
         Test::Between { negated, low, high } => {
-            let low = comparison(alloc, low, names);
-            let high = comparison(alloc, high, names);
+            let low = comparison(alloc, low, names, calls);
+            let high = comparison(alloc, high, names, calls);
             negated_if(alloc, *negated, within(alloc, value, low, high))
         }
         Test::OneOf { negated, list } => {
-            let all = several(alloc, list.as_slice(), names);
+            let all = several(alloc, list.as_slice(), names, calls);
             negated_if(alloc, *negated, one_of(alloc, value, all))
         }
         Test::Like { negated, pattern } => {
-            let pattern = comparison(alloc, pattern, names);
+            let pattern = comparison(alloc, pattern, names, calls);
             negated_if(alloc, *negated, matched(alloc, value, pattern))
         }
         Test::Is { negated, truth } => negated_if(alloc, *negated, asked(alloc, *truth, value)),
@@ -111,12 +139,13 @@ fn several<N: Names>(
     alloc: Global,
     trees: &[OrTree],
     names: &N,
+    calls: &[Call],
 ) -> Result<Vec<Typed>, AnalysisFault>
-    ensures { SaysAll result (values_of trees.now (within_call (N.place names.now))) }
+    ensures { SaysAll result (values_of trees.now (at_calls (N.place names.now) calls.now)) }
 {
     let mut all = Ok(Vec::new(alloc));
     'trees: for next in trees {
-        all = with_one(all, or(alloc, next, names));
+        all = with_one(all, or(alloc, next, names, calls));
     }
     all
 }
@@ -127,56 +156,77 @@ fn comparison<N: Names>(
     alloc: Global,
     tree: &ComparisonTree,
     names: &N,
+    calls: &[Call],
 ) -> Result<Typed, AnalysisFault>
-    ensures { Says result (value_of_comparison tree.now (within_call (N.place names.now))) }
+    ensures { Says result (value_of_comparison tree.now (at_calls (N.place names.now) calls.now)) }
 {
     let (first, rest) = comparison_parts(tree);
-    let mut value = sum(alloc, first, names);
+    let mut value = sum(alloc, first, names, calls);
     'more: for next in rest {
-        value = compared(alloc, next.0, value, sum(alloc, &next.1, names));
+        value = compared(alloc, next.0, value, sum(alloc, &next.1, names, calls));
     }
     value
 }
 
 /// Products that are added.
 #[cycle(expression)]
-fn sum<N: Names>(alloc: Global, tree: &SumTree, names: &N) -> Result<Typed, AnalysisFault>
-    ensures { Says result (value_of_sum tree.now (within_call (N.place names.now))) }
+fn sum<N: Names>(
+    alloc: Global,
+    tree: &SumTree,
+    names: &N,
+    calls: &[Call],
+) -> Result<Typed, AnalysisFault>
+    ensures { Says result (value_of_sum tree.now (at_calls (N.place names.now) calls.now)) }
 {
     let (first, rest) = sum_parts(tree);
-    let mut value = product(alloc, first, names);
+    let mut value = product(alloc, first, names, calls);
     'more: for next in rest {
-        value = added(alloc, next.0, value, product(alloc, &next.1, names));
+        value = added(alloc, next.0, value, product(alloc, &next.1, names, calls));
     }
     value
 }
 
 /// Signed operands that are multiplied.
 #[cycle(expression)]
-fn product<N: Names>(alloc: Global, tree: &ProductTree, names: &N) -> Result<Typed, AnalysisFault>
-    ensures { Says result (value_of_product tree.now (within_call (N.place names.now))) }
+fn product<N: Names>(
+    alloc: Global,
+    tree: &ProductTree,
+    names: &N,
+    calls: &[Call],
+) -> Result<Typed, AnalysisFault>
+    ensures { Says result (value_of_product tree.now (at_calls (N.place names.now) calls.now)) }
 {
     let (first, rest) = product_parts(tree);
-    let mut value = sign(alloc, first, names);
+    let mut value = sign(alloc, first, names, calls);
     'more: for next in rest {
-        value = multiplied(alloc, next.0, value, sign(alloc, &next.1, names));
+        value = multiplied(alloc, next.0, value, sign(alloc, &next.1, names, calls));
     }
     value
 }
 
 /// An operand under its signs.
 #[cycle(expression)]
-fn sign<N: Names>(alloc: Global, tree: &SignTree, names: &N) -> Result<Typed, AnalysisFault>
-    ensures { Says result (value_of_sign tree.now (within_call (N.place names.now))) }
+fn sign<N: Names>(
+    alloc: Global,
+    tree: &SignTree,
+    names: &N,
+    calls: &[Call],
+) -> Result<Typed, AnalysisFault>
+    ensures { Says result (value_of_sign tree.now (at_calls (N.place names.now) calls.now)) }
 {
     let (signs, operand) = sign_parts(tree);
-    under_signs(alloc, signs, primary(alloc, operand, names))
+    under_signs(alloc, signs, primary(alloc, operand, names, calls))
 }
 
 /// An operand without an operator outside of parentheses.
 #[cycle(expression)]
-fn primary<N: Names>(alloc: Global, tree: &PrimaryTree, names: &N) -> Result<Typed, AnalysisFault>
-    ensures { Says result (value_of_primary tree.now (within_call (N.place names.now))) }
+fn primary<N: Names>(
+    alloc: Global,
+    tree: &PrimaryTree,
+    names: &N,
+    calls: &[Call],
+) -> Result<Typed, AnalysisFault>
+    ensures { Says result (value_of_primary tree.now (at_calls (N.place names.now) calls.now)) }
 {
     match tree {
         PrimaryTree::Number {
@@ -187,22 +237,29 @@ fn primary<N: Names>(alloc: Global, tree: &PrimaryTree, names: &N) -> Result<Typ
         PrimaryTree::Literal(content) => text(alloc, content),
         PrimaryTree::Boolean(value) => Ok(boolean(*value)),
         PrimaryTree::Null => Ok(null()),
-        PrimaryTree::Column(name) => names.column(alloc, name),
+        PrimaryTree::Column(name) => names.column(alloc, name, calls),
         PrimaryTree::TableColumn { table, name } => names.column_of(alloc, table, name),
-        PrimaryTree::Paren(value) => or(alloc, value.get(), names),
-        PrimaryTree::Cast { value, kind } => cast(alloc, *kind, or(alloc, value.get(), names)),
+        PrimaryTree::Paren(value) => or(alloc, value.get(), names, calls),
+        PrimaryTree::Cast { value, kind } => cast(
+            alloc,
+            *kind,
+            or(alloc, value.get(), names, calls),
+        ),
         PrimaryTree::Case {
             operand,
             arms,
             otherwise,
         } => {
-            let operand = maybe(alloc, operand, names);
-            let arms = arms_of(alloc, arms.as_slice(), names);
-            case(alloc, operand, arms, maybe(alloc, otherwise, names))
+            let operand = maybe(alloc, operand, names, calls);
+            let arms = arms_of(alloc, arms.as_slice(), names, calls);
+            case(alloc, operand, arms, maybe(alloc, otherwise, names, calls))
         }
-        PrimaryTree::CountAll => Err(refused(alloc, AnalysisKind::NestedAggregate, "count")),
+        PrimaryTree::CountAll => counted_rows(alloc, names.width(), calls),
         PrimaryTree::Call { name, arguments } => {
-            call(alloc, name, several(alloc, arguments.as_slice(), names))
+            let fun = aggregate_named(name);
+            let inner = calls_within(fun, calls);
+            let arguments = several(alloc, arguments.as_slice(), names, inner);
+            called(alloc, name, fun, arguments, names.width(), calls)
         }
     }
 }
@@ -213,11 +270,12 @@ fn maybe<N: Names>(
     alloc: Global,
     tree: &Option<Boxed<OrTree>>,
     names: &N,
+    calls: &[Call],
 ) -> Result<Option<Typed>, AnalysisFault>
-    ensures { Says result (value_if_any tree.now (within_call (N.place names.now))) }
+    ensures { Says result (value_if_any tree.now (at_calls (N.place names.now) calls.now)) }
 {
     match tree {
-        Some(tree) => there(or(alloc, tree.get(), names)),
+        Some(tree) => there(or(alloc, tree.get(), names, calls)),
         None => Ok(None),
     }
 }
@@ -228,22 +286,28 @@ fn arms_of<N: Names>(
     alloc: Global,
     trees: &[Arm],
     names: &N,
+    calls: &[Call],
 ) -> Result<Vec<(Typed, Typed)>, AnalysisFault>
-    ensures { SaysAll result (values_of_arms trees.now (within_call (N.place names.now))) }
+    ensures { SaysAll result (values_of_arms trees.now (at_calls (N.place names.now) calls.now)) }
 {
     let mut all = Ok(Vec::new(alloc));
     'trees: for next in trees {
-        all = with_arm(all, arm(alloc, next, names));
+        all = with_arm(all, arm(alloc, next, names, calls));
     }
     all
 }
 
 /// An arm of a CASE.
 #[cycle(expression)]
-fn arm<N: Names>(alloc: Global, tree: &Arm, names: &N) -> Result<(Typed, Typed), AnalysisFault>
-    ensures { Says result (value_of_arm tree.now (within_call (N.place names.now))) }
+fn arm<N: Names>(
+    alloc: Global,
+    tree: &Arm,
+    names: &N,
+    calls: &[Call],
+) -> Result<(Typed, Typed), AnalysisFault>
+    ensures { Says result (value_of_arm tree.now (at_calls (N.place names.now) calls.now)) }
 {
     let (when, gives) = arm_parts(tree);
-    let when = or(alloc, when, names);
-    arm_of(when, or(alloc, gives, names))
+    let when = or(alloc, when, names, calls);
+    arm_of(when, or(alloc, gives, names, calls))
 }

@@ -8,7 +8,10 @@ mod column;
 mod levels;
 mod literals;
 mod names;
+mod place;
 mod steps;
 mod value;
 
-pub use value::{is_column, value_over, value_with_aliases};
+pub use calls::Call;
+pub use place::Place;
+pub use value::{is_column, value_at, value_over, value_with_aliases};

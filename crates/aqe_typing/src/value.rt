@@ -6,14 +6,29 @@ ghost use Rattle.aqe_rules.specs.Sources.{over};
 ghost use Rattle.aqe_rules.specs.Selects.{with_aliases};
 ghost use Rattle.aqe_rules.specs.Faults.{Says};
 ghost use Rattle.aqe_typing.specs.Columns.{is_a_column};
+ghost use Rattle.aqe_typing.specs.Places.{place_seen};
 
 use crate::aliases::WithAliases;
 use crate::column;
 use crate::levels::or;
-use crate::names::Columns;
+use crate::place::Place;
 use aqe_rules::{AnalysisFault, Named, Typed};
 use aqe_trees::{ItemTree, OrTree};
 use std::alloc::Global;
+
+/// What the expression means at the place, or the first check that it fails.
+///
+/// What stands under an alias is read over the columns alone, with the aggregate calls of the place. No aggregate call may
+/// stand in the argument of another one.
+pub fn value_at(alloc: Global, tree: &OrTree, place: &Place) -> Result<Typed, AnalysisFault>
+    ensures { Says result (read tree.now (place_seen place.now)).value }
+{
+    let names = WithAliases {
+        columns: place.columns,
+        list: place.list,
+    };
+    or(alloc, tree, &names, place.calls)
+}
 
 /// What the expression means over the columns, or the first check that it fails.
 ///
@@ -21,12 +36,12 @@ use std::alloc::Global;
 pub fn value_over(alloc: Global, tree: &OrTree, columns: &[Named]) -> Result<Typed, AnalysisFault>
     ensures { Says result (read tree.now (over columns.now)).value }
 {
-    or(alloc, tree, &Columns { columns })
+    value_with_aliases(alloc, tree, columns, &[])
 }
 
 /// What the expression means where a name that no column has may be an alias of the select list.
 ///
-/// What stands under the alias is read over the columns alone.
+/// No aggregate call may stand there.
 pub fn value_with_aliases(
     alloc: Global,
     tree: &OrTree,
@@ -35,7 +50,12 @@ pub fn value_with_aliases(
 ) -> Result<Typed, AnalysisFault>
     ensures { Says result (read tree.now (with_aliases columns.now list.now [])).value }
 {
-    or(alloc, tree, &WithAliases { columns, list })
+    let place = Place {
+        columns,
+        list,
+        calls: &[],
+    };
+    value_at(alloc, tree, &place)
 }
 
 /// Whether the expression is the name of a column alone, parentheses aside.

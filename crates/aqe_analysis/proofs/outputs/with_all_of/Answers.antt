@@ -5,7 +5,7 @@ use Rattle.aqe_analysis.proofs.OutputSteps.{any-seen}
 use Rattle.aqe_analysis.proofs.outputs.with_all_of.Goals as goal
 
 pub returns-then-not-is_any_named : goal.returns-then-not-is_any_named
-returns-then-not-is_any_named c = rw (any-seen (is_named c.args.name.now) item_seen c.args.shown.now.items) (search rules)
+returns-then-not-is_any_named g c = rw (any-seen (is_named c.args.name.now) item_seen c.args.shown.now.items) (search rules)
 
 pub returns : goal.returns
-returns c = rw (any-seen (is_named c.args.name.now) item_seen c.args.shown.now.items) (search rules)
+returns g c = rw (any-seen (is_named c.args.name.now) item_seen c.args.shown.now.items) (search rules)
