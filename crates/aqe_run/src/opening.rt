@@ -15,7 +15,7 @@ ghost use Rattle.aqe_course.specs.Opening.{IsOpened, IsNotOpened, IsSource, IsRe
 ghost use Rattle.aqe_run.specs.Steps.{IsExcuse, IsNotRead, is_step_end};
 
 use aqe_base::{Bytes, LimitKind, Status, SyntaxKind};
-use aqe_built::is_script_built;
+use aqe_built::form_not_built;
 use aqe_lexer::{LexFault, Tokens, tokens};
 use aqe_store::{ReadFail, Store, read_all};
 use aqe_syntax::{SyntaxFault, parse};
@@ -123,7 +123,8 @@ fn script_of(alloc: Global, source: &[u8], place: &mut FaultPlace) -> Result<Scr
 {
     let tokens = tokens_of(alloc, source, place)?;
     let script = statements_of(alloc, source, &tokens, place)?;
-    if !is_script_built(&script) {
+    if let Some(form) = form_not_built(&script) {
+        place.note(form.text());
         return Err(Status::NotBuilt);
     }
     Ok(script)
