@@ -41,6 +41,11 @@ abbrev pub RunsAnswerTheSame : Type 0
 RunsAnswerTheSame = (files : Entries) (said : Command) (those others : List Query)
     → IsDone files said those → IsDone files said others → AreAllAlike those others
 
+-- Each run is carried out or refused: none is neither. The definitions compute no test of whether tokens are a script, so that
+-- this says of a run which is not refused that it cannot but be carried out.
+abbrev pub EachRunEnds : Type 0
+EachRunEnds = (files : Entries) (said : Command) → ((queries : List Query) → ¬ (IsDone files said queries)) → ¬ (IsAccepted files said)
+
 -- the refusals of the course are those of `is_refusal`
 abbrev pub RefusalsAreOfTheCourse : Type 0
 RefusalsAreOfTheCourse = (files : Entries) (said : Command) (queries : List Query) (end : Status)
