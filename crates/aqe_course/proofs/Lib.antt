@@ -6,3 +6,4 @@ pub mod Surely
 pub mod SourceEnds
 pub mod TableEnds
 pub mod RunEnds
+pub mod Numbers

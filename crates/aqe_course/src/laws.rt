@@ -1,6 +1,6 @@
 //! Laws of the definitions, each the contract of a function that does nothing.
 
-ghost use Rattle.aqe_course.specs.Laws.{DoneIsNotRefused, EachRunEnds, EndsTell, RefusalsAreOfTheCourse, RunsAnswerTheSame, RunsHaveOneRefusal};
+ghost use Rattle.aqe_course.specs.Laws.{DoneIsNotRefused, EachRunEnds, EndsTell, RefusalsAreOfTheCourse, RunsAnswerTheSame, RunsHaveOneRefusal, RunsNumberTheirQueries};
 
 /// A run is refused with one status at most, behind the same queries.
 pub fn runs_have_one_refusal()
@@ -15,6 +15,11 @@ pub fn runs_end_in_one_way()
 /// A run that is carried out answers the same queries, however it is taken.
 pub fn runs_answer_the_same()
     ensures { RunsAnswerTheSame }
+{}
+
+/// The queries of a run are numbered from 0, in the order of the script.
+pub fn runs_number_their_queries()
+    ensures { RunsNumberTheirQueries }
 {}
 
 /// A run is carried out or refused, and none is neither.
