@@ -7,3 +7,4 @@ pub mod SourceEnds
 pub mod TableEnds
 pub mod RunEnds
 pub mod Numbers
+pub mod Shapes

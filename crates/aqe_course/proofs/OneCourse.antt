@@ -33,7 +33,7 @@ use Rattle.aqe_course.specs.Opening.Needed.{there, missing, too_long}
 use Rattle.aqe_course.specs.Opening.IsNotOpened.{no_file, refused}
 use Rattle.aqe_course.specs.Ending.{IsDone, IsRefused}
 use Rattle.aqe_course.specs.Ending.IsRefused.{at_once, on_the_way}
-use Rattle.aqe_course.specs.Laws.{AreAlike, AreAllAlike, OneRefusal}
+use Rattle.aqe_course.specs.Laws.{AreAllAlike, OneRefusal}
 use Rattle.aqe_course.proofs.OneLoading.{Alike, alike_back, loaded_alike, stopped_not_loaded, stopped_once}
 
 -- two runs stand alike

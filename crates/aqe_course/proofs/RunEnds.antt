@@ -1,10 +1,9 @@
 -- A run is carried out, or is refused.
-use Rattle.std.proofs.Common.{◌≡◌, ◌⊎◌, inl, inr, ℕ, zero, suc, ◌+◌, ◌<◌, Bool, true, false, not, List, [], ◌∷◌, ◌++◌, Option, Some, None, Result, Ok, Err, length, refl, sym, ap, subst, ◌∙◌, ◌&&◌, arith, map, replicate, set, slice_get, IsTrue, length-append}
+use Rattle.std.proofs.Common.{◌≡◌, ◌⊎◌, inl, inr, ℕ, zero, suc, ◌+◌, ◌<◌, Bool, true, false, List, [], ◌∷◌, ◌++◌, Option, Some, None, Ok, Err, length, refl, sym, ap, subst, ◌&&◌, arith, replicate, set, slice_get, length-append}
 use Rattle.std.specs.Prelude.{All, IsSome}
 use Rattle.std.specs.List.{list_all}
-use Rattle.std.proofs.lemmas.List.Elements.{All-head, All-tail, All-map}
+use Rattle.std.proofs.lemmas.List.Elements.{All-head, All-tail}
 use Rattle.aqe_base.specs.declared.status.Status.{Status}
-use Rattle.aqe_values.specs.declared.schema.Field.{Field}
 use Rattle.aqe_store.specs.Files.{Entries}
 use Rattle.aqe_logical.specs.declared.plan.Logical.{Logical}
 use Rattle.aqe_trees.specs.declared.query.QueryTree.{QueryTree}
@@ -18,18 +17,16 @@ use Rattle.aqe_tables.specs.declared.loaded.Table.{Table}
 use Rattle.aqe_tables.specs.Catalog.{catalog_table, create_fault}
 use Rattle.aqe_tables.specs.Loaded.{IsLoaded, Loads, Pads, Slots, all_bytes, table_at}
 use Rattle.aqe_tables.proofs.LoadedFacts.{put_loads}
-use Rattle.aqe_rules.specs.Outcomes.{Check, Outcome}
+use Rattle.aqe_rules.specs.Outcomes.{Outcome}
 use Rattle.aqe_rules.specs.Analysis.{Analysed, walk}
 use Rattle.aqe_analysis.specs.Catalogs.{seen}
 use Rattle.aqe_built.specs.Built.{is_script_built, is_statement_built}
 use Rattle.aqe_lists.specs.Forms.{scans}
-use Rattle.aqe_course.specs.Command.{Command}
-use Rattle.aqe_course.specs.Loading.{AreLoaded, IsAdded, IsRefusedTable, IsStopped}
+use Rattle.aqe_course.specs.Loading.{AreLoaded, IsAdded, IsStopped}
 use Rattle.aqe_course.specs.Loading.AreLoaded.{all, again, next}
 use Rattle.aqe_course.specs.Loading.IsStopped.{here, again as again_stops, next as next_stops}
-use Rattle.aqe_course.specs.Course.{IsCarriedOut, IsNotAnalysed, IsNotLoaded, IsRefusedStatement, Query, Runs, State, nothing, of_check, of_create, of_load, query, state}
+use Rattle.aqe_course.specs.Course.{IsCarriedOut, IsRefusedStatement, Query, Runs, State, nothing, of_check, of_create, of_load, query, state}
 use Rattle.aqe_course.specs.Course.Runs.{none, more}
-use Rattle.aqe_course.specs.Ending.{IsAccepted, IsDone, IsRefused}
 use Rattle.aqe_course.specs.Ending.IsRefused.{at_once, on_the_way}
 use Rattle.aqe_course.specs.Laws.{EachRunEnds}
 use Rattle.aqe_course.proofs.ScanFacts.{scans_within}

@@ -1,5 +1,5 @@
 -- The tables that the plan of a query scans are those of the catalog.
-use Rattle.std.proofs.Common.{◌≡◌, ℕ, zero, suc, ◌<◌, List, [], ◌∷◌, ◌++◌, map, length, Option, Some, None, arith, refl, sym, ap, subst, ◌∙◌}
+use Rattle.std.proofs.Common.{◌≡◌, ℕ, zero, suc, ◌<◌, List, [], ◌∷◌, ◌++◌, map, length, Some, arith, refl, ap, subst, ◌∙◌}
 use Rattle.std.specs.Prelude.{All, slice_get}
 use Rattle.std.proofs.lemmas.List.{map-append}
 use Rattle.std.proofs.lemmas.List.Elements.{All-nil, All-cons, All-head, All-tail}
@@ -9,8 +9,7 @@ use Rattle.aqe_logical.specs.Shapes.{filtered, projected, joined, aggregated, un
 use Rattle.aqe_trees.specs.declared.query.QueryTree.{QueryTree}
 use Rattle.aqe_tables.specs.declared.catalog.CatalogTable.{CatalogTable}
 use Rattle.aqe_rules.specs.Analysis.{Analysed}
-use Rattle.aqe_rules.specs.Sources.{Catalog}
-use Rattle.aqe_laws.specs.Scans.{columns_of_tables, scanned_tables, HasItsColumns, ScansHaveTheirColumns}
+use Rattle.aqe_laws.specs.Scans.{columns_of_tables, scanned_tables, HasItsColumns}
 use Rattle.aqe_laws.proofs.Scans.{of_the_catalog}
 use Rattle.aqe_analysis.specs.Catalogs.{seen}
 use Rattle.aqe_lists.specs.Forms.{scans}

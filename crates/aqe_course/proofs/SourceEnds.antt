@@ -13,7 +13,6 @@ use Rattle.aqe_store.specs.Files.{Entries, content_of}
 use Rattle.aqe_store.specs.Reading.{IsLonger}
 use Rattle.aqe_lexer.specs.declared.fault.Fault.{Fault}
 use Rattle.aqe_lexer.specs.declared.fault.LexFault.{LexFault}
-use Rattle.aqe_lexer.specs.declared.fault.LexFault.TheVariants as lex
 use Rattle.aqe_lexer.specs.declared.front.Front.{Front}
 use Rattle.aqe_lexer.specs.declared.front.Front.TheVariants as front
 use Rattle.aqe_lexer.specs.declared.piece.Piece.{Piece}
@@ -24,7 +23,7 @@ use Rattle.aqe_lexer.specs.declared.token.TokenKind.TheVariants as kind
 use Rattle.aqe_lexer.specs.Bytes.{front_of, is_in_line, is_pair, is_word_byte}
 use Rattle.aqe_lexer.specs.Faults.{is_open, told_of}
 use Rattle.aqe_lexer.specs.Numbers.{run_of}
-use Rattle.aqe_lexer.specs.Parts.{EndsIn, Passes, Stops, comment_end, comment_step, name_end, name_part, step_by, string_end, string_part}
+use Rattle.aqe_lexer.specs.Parts.{Stops, comment_end, comment_step, name_end, name_part, step_by, string_end, string_part}
 use Rattle.aqe_lexer.specs.Parts.Passes.{here, next}
 use Rattle.aqe_lexer.specs.Pieces.{Begins, Fits, symbol_of}
 use Rattle.aqe_lexer.specs.Symbols.{symbol_len}

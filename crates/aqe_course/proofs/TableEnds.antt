@@ -1,5 +1,5 @@
 -- A table of the catalog is that of the files, or is refused.
-use Rattle.std.proofs.Common.{◌≡◌, ◌⊎◌, ◌↔◌, inl, inr, ℕ, zero, suc, ◌+◌, ◌<◌, ◌≤◌, Bool, true, false, List, [], ◌∷◌, ◌++◌, Option, Some, None, length, drop, refl, sym, ap, subst, ◌∙◌, arith, append_assoc, Contains, IsTrue, cond, option_map, find, replicate, set, length-append}
+use Rattle.std.proofs.Common.{◌≡◌, ◌⊎◌, inl, inr, ℕ, zero, suc, ◌+◌, ◌≤◌, Bool, true, false, List, [], ◌∷◌, ◌++◌, Option, Some, None, length, refl, sym, ap, subst, ◌∙◌, arith, append_assoc, Contains, cond, option_map, find}
 use Rattle.std.specs.Prelude.{All, AllPairs, IsFalse, IsSome}
 use Rattle.std.specs.Cmp.Lexicographic.{slice_cmp}
 use Rattle.std.specs.Ordering.{nat_cmp}
@@ -13,7 +13,7 @@ use Rattle.std.proofs.lemmas.List.Sums.{sum_by-cons}
 use Rattle.std.proofs.lemmas.Map.Text.{is_eq-slice_cmp}
 use Rattle.std.proofs.lemmas.Slice.Eq.{bytes_eq-Decides}
 use Rattle.aqe_values.specs.Bounds.{text_limit}
-use Rattle.aqe_store.specs.Files.{Entries, IsFileOf, IsFolder, IsHeld, content_of}
+use Rattle.aqe_store.specs.Files.{Entries, IsFolder, IsHeld, content_of}
 use Rattle.aqe_tables.specs.declared.catalog.CatalogTable.{CatalogTable}
 use Rattle.aqe_tables.specs.declared.fault.LoadFault.{LoadFault}
 use Rattle.aqe_tables.specs.declared.fault.LoadFault.TheVariants as fault

@@ -1,9 +1,10 @@
 -- What holds of the courses and the ends of all runs.
-use Rattle.std.specs.Prelude.{◌≡◌, ◌⊎◌, ◌+◌, ⊤, ℕ, List, [], ◌∷◌, Option, IsTrue}
+use Rattle.std.specs.Prelude.{◌≡◌, ◌⊎◌, ◌+◌, ⊤, ℕ, List, [], ◌∷◌, length, slice_get, Option, IfSome, IsSomeAnd, IsTrue}
 use Rattle.aqe_base.specs.declared.status.Status.{Status}
 use Rattle.aqe_base.specs.declared.status.Status.TheVariants as status
 use Rattle.aqe_store.specs.Files.{Entries}
 use Rattle.aqe_store.specs.Told.{Open}
+use Rattle.aqe_tables.specs.Load.{IsShaped}
 use Rattle.aqe_tables.specs.Loaded.{table_at}
 use Rattle.aqe_course.specs.Command.{Command}
 use Rattle.aqe_trees.specs.declared.statement.Stmt.{Stmt}
@@ -52,6 +53,16 @@ AreNumbered n (query ∷ queries) = (query.number ≡ n) × AreNumbered (n + 1) 
 abbrev pub RunsNumberTheirQueries : Type 0
 RunsNumberTheirQueries = (files : Entries) (script left : List Stmt) (queries : List Query) (now : State)
     → Runs files nothing script queries now left → AreNumbered 0 queries
+
+-- Each loaded table was created, and has the shape of its schema: 1 to 1,000 files, and in each row a value for each column.
+abbrev pub HasShapedTables : State → Type 0
+HasShapedTables now = (n : ℕ) → IfSome (table_at now.tables n)
+    (λ loaded. IsSomeAnd (slice_get now.catalog n) (λ table. IsShaped (length table.form.schema) loaded))
+
+-- what a run has loaded stays so
+abbrev pub RunsKeepShapes : Type 0
+RunsKeepShapes = (files : Entries) (script left : List Stmt) (queries : List Query) (now : State)
+    → Runs files nothing script queries now left → HasShapedTables now
 
 -- Each run is carried out or refused: none is neither. The definitions compute no test of whether tokens are a script, so that
 -- this says of a run which is not refused that it cannot but be carried out.

@@ -1,6 +1,6 @@
 //! Laws of the definitions, each the contract of a function that does nothing.
 
-ghost use Rattle.aqe_course.specs.Laws.{DoneIsNotRefused, EachRunEnds, EndsTell, RefusalsAreOfTheCourse, RunsAnswerTheSame, RunsHaveOneRefusal, RunsNumberTheirQueries};
+ghost use Rattle.aqe_course.specs.Laws.{DoneIsNotRefused, EachRunEnds, EndsTell, RefusalsAreOfTheCourse, RunsAnswerTheSame, RunsHaveOneRefusal, RunsNumberTheirQueries, RunsKeepShapes};
 
 /// A run is refused with one status at most, behind the same queries.
 pub fn runs_have_one_refusal()
@@ -20,6 +20,11 @@ pub fn runs_answer_the_same()
 /// The queries of a run are numbered from 0, in the order of the script.
 pub fn runs_number_their_queries()
     ensures { RunsNumberTheirQueries }
+{}
+
+/// What a run has loaded has the shape of its schema.
+pub fn runs_keep_shapes()
+    ensures { RunsKeepShapes }
 {}
 
 /// A run is carried out or refused, and none is neither.

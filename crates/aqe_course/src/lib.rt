@@ -5,5 +5,5 @@ mod laws;
 
 pub use laws::{
     each_run_ends, ends_tell, refusals_are_of_the_course, runs_answer_the_same,
-    runs_end_in_one_way, runs_have_one_refusal, runs_number_their_queries,
+    runs_end_in_one_way, runs_have_one_refusal, runs_keep_shapes, runs_number_their_queries,
 };

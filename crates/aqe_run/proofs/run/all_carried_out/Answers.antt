@@ -9,6 +9,7 @@ use Rattle.aqe_run.proofs.run.all_carried_out.Goals as goal
 pub statements-init : goal.statements-init
 statements-init g c =
     let none : length c.new-made.result.catalog ≡ 0 = ap (λ (s : State). length s.catalog) c.new-made.ensures in
+    let unanswered : c.new-made.result.answered ≡ 0 = ap (λ (s : State). s.answered) c.new-made.ensures in
     rw c.new-made.ensures (record {
       keeps = search rules;
       faults = refl;
@@ -16,7 +17,7 @@ statements-init g c =
       written = refl;
       so_far = begun_told (g.S.Store.files c.args.store.now) c.args.script.now (g.O.Sink.taken c.args.out.now);
       built = c.requires.built;
-      few = omega (arith, none);
+      few = omega (arith, none, unanswered);
     })
 
 pub returns-in_err-carried_out-clause-early : goal.returns-in_err-carried_out-clause-early

@@ -14,7 +14,7 @@ invariant-statements g l = record {
   written : g.O.Sink.faults l.out ≡ g.O.Sink.faults l.fn.out;
   so_far : WhereTold (g.S.Store.files l.fn.store) (λ files. IsCarriedTo files l.script (state_of l.made) l.left (g.O.Sink.taken l.fn.out) (g.O.Sink.taken l.out));
   built : IsTrue (is_script_built l.left);
-  few : length l.made.catalog + length l.left ≤ length l.script;
+  few : length l.made.catalog + l.made.answered + length l.left ≤ length l.script;
 }
 
 abbrev pub decreases-statements : goal.decreases-statements
