@@ -17,7 +17,7 @@ use Rattle.aqe_tables.specs.Load.{AreWide, IsShaped, IsTableOf, files_limit, tab
 use Rattle.aqe_tables.specs.Loaded.{Slots, table_at}
 use Rattle.aqe_course.specs.Course.{IsCarriedOut, Query, Runs, State}
 use Rattle.aqe_course.specs.Course.Runs.{none, more}
-use Rattle.aqe_course.specs.Laws.{HasShapedTables, RunsKeepShapes}
+use Rattle.aqe_course.specs.Laws.{AreShaped, HasShapedTables, RunsKeepShapes}
 use Rattle.aqe_course.specs.Loading.{AreLoaded, IsAdded}
 use Rattle.aqe_course.specs.Loading.AreLoaded.{all, again, next}
 
@@ -61,16 +61,13 @@ shaped files form before loaded t = record {
   wide = subst (All (AreWide (length form.form.schema))) (sym t.rows) (table_wide form.form t.parts);
 }
 
-abbrev AreShaped : List CatalogTable → Slots → Type 0
-AreShaped catalog slots = (n : ℕ) → IfSome (table_at slots n) (λ loaded. IsSomeAnd (slice_get catalog n) (λ table. IsShaped (length table.form.schema) loaded))
-
 -- one table more is created
 created_later : (P : CatalogTable → Type 0) (catalog : List CatalogTable) (one : CatalogTable) (n : ℕ) → IsSomeAnd (slice_get catalog n) P → IsSomeAnd (slice_get (catalog ++ one ∷ []) n) P
 created_later P [] one n h = absurd h
 created_later P (table ∷ catalog) one zero h = h
 created_later P (table ∷ catalog) one (suc n) h = created_later P catalog one n h
 
-grown : (catalog : List CatalogTable) (slots : Slots) (one : CatalogTable) → AreShaped catalog slots → AreShaped (catalog ++ one ∷ []) slots
+pub grown : (catalog : List CatalogTable) (slots : Slots) (one : CatalogTable) → AreShaped catalog slots → AreShaped (catalog ++ one ∷ []) slots
 grown catalog slots one h n = by (table_at slots n) (h n)
   where
     by : (o : Option Table) → IfSome o (λ loaded. IsSomeAnd (slice_get catalog n) (λ table. IsShaped (length table.form.schema) loaded))
@@ -78,20 +75,22 @@ grown catalog slots one h n = by (table_at slots n) (h n)
     by None k = tt
     by (Some loaded) k = created_later (λ table. IsShaped (length table.form.schema) loaded) catalog one n k
 
--- one table more is loaded
-added : (files : Entries) (catalog : List CatalogTable) (before after : Slots) (n : ℕ) → IsAdded files catalog before n after → AreShaped catalog before → AreShaped catalog after
-added files catalog before after n a h m = by (m == n) refl
+-- one table more is loaded: it has its shape, and the others stay
+pub one_more : (catalog : List CatalogTable) (before after : Slots) (n : ℕ) → AreShaped catalog before → ((m : ℕ) → m ≢ n → table_at after m ≡ table_at before m)
+    → IfSome (table_at after n) (λ loaded. IsSomeAnd (slice_get catalog n) (λ table. IsShaped (length table.form.schema) loaded)) → AreShaped catalog after
+one_more catalog before after n h others there m = by (m == n) refl
   where
-    there : IfSome (Some a.table) (λ loaded. IsSomeAnd (slice_get catalog n) (λ table. IsShaped (length table.form.schema) loaded))
-    there = subst (λ o. IsSomeAnd o (λ table. IsShaped (length table.form.schema) a.table)) (sym a.created) (shaped files a.form _ a.table a.is)
-
     by : (b : Bool) → (m == n) ≡ b → IfSome (table_at after m) (λ loaded. IsSomeAnd (slice_get catalog m) (λ table. IsShaped (length table.form.schema) loaded))
-    by true e =
-        let same : m ≡ n = (Decides-eqb m n).0 e in
-        rw (same, a.put.is) there
+    by true e = let same : m ≡ n = (Decides-eqb m n).0 e in rw same there
     by false e =
         let other : m ≢ n = λ same. let bad : true ≡ false = sym ((Decides-eqb m n).1 same) ∙ e in cc bad in
-        rw (a.put.others m other) (h m)
+        rw (others m other) (h m)
+
+added : (files : Entries) (catalog : List CatalogTable) (before after : Slots) (n : ℕ) → IsAdded files catalog before n after → AreShaped catalog before → AreShaped catalog after
+added files catalog before after n a h = one_more catalog before after n h a.put.others (rw a.put.is there)
+  where
+    there : IsSomeAnd (slice_get catalog n) (λ table. IsShaped (length table.form.schema) a.table)
+    there = subst (λ o. IsSomeAnd o (λ table. IsShaped (length table.form.schema) a.table)) (sym a.created) (shaped files a.form _ a.table a.is)
 
 loaded_all : (files : Entries) (catalog : List CatalogTable) (before after : Slots) (numbers : List ℕ) → AreLoaded files catalog before numbers after → AreShaped catalog before → AreShaped catalog after
 loaded_all files catalog _ _ _ (all before) h = h

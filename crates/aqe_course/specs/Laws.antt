@@ -4,8 +4,9 @@ use Rattle.aqe_base.specs.declared.status.Status.{Status}
 use Rattle.aqe_base.specs.declared.status.Status.TheVariants as status
 use Rattle.aqe_store.specs.Files.{Entries}
 use Rattle.aqe_store.specs.Told.{Open}
+use Rattle.aqe_tables.specs.declared.catalog.CatalogTable.{CatalogTable}
 use Rattle.aqe_tables.specs.Load.{IsShaped}
-use Rattle.aqe_tables.specs.Loaded.{table_at}
+use Rattle.aqe_tables.specs.Loaded.{Slots, table_at}
 use Rattle.aqe_course.specs.Command.{Command}
 use Rattle.aqe_trees.specs.declared.statement.Stmt.{Stmt}
 use Rattle.aqe_course.specs.Course.{Query, Runs, State, nothing}
@@ -55,9 +56,12 @@ RunsNumberTheirQueries = (files : Entries) (script left : List Stmt) (queries : 
     → Runs files nothing script queries now left → AreNumbered 0 queries
 
 -- Each loaded table was created, and has the shape of its schema: 1 to 1,000 files, and in each row a value for each column.
+abbrev pub AreShaped : List CatalogTable → Slots → Type 0
+AreShaped catalog slots = (n : ℕ) → IfSome (table_at slots n)
+    (λ loaded. IsSomeAnd (slice_get catalog n) (λ table. IsShaped (length table.form.schema) loaded))
+
 abbrev pub HasShapedTables : State → Type 0
-HasShapedTables now = (n : ℕ) → IfSome (table_at now.tables n)
-    (λ loaded. IsSomeAnd (slice_get now.catalog n) (λ table. IsShaped (length table.form.schema) loaded))
+HasShapedTables now = AreShaped now.catalog now.tables
 
 -- what a run has loaded stays so
 abbrev pub RunsKeepShapes : Type 0

@@ -5,6 +5,7 @@ ghost use Rattle.aqe_store.specs.Told.{WhereTold};
 ghost use Rattle.aqe_tables.specs.Loaded.{IsLoaded};
 ghost use Rattle.aqe_base.specs.declared.status.Status.TheVariants as status;
 ghost use Rattle.aqe_course.specs.Course.{of_load};
+ghost use Rattle.aqe_course.specs.Laws.{AreShaped};
 ghost use Rattle.aqe_run.specs.Steps.{AreMissing, IsExcuse, IsNext, IsNotNext, IsRunStep, LoadsAll, RefusesTables, is_step_end};
 
 use aqe_base::{LimitKind, Status};
@@ -53,8 +54,10 @@ fn load_one<S: Store>(
     store: &mut S,
     place: &mut FaultPlace,
 ) -> Result<(), Status>
-    requires { table < length catalog.now }
+    requires there { table < length catalog.now }
+    requires shaped { AreShaped catalog.now tables.old }
     ensures loaded { OnOk result (IsLoaded tables.new table) }
+    ensures shaped { AreShaped catalog.now tables.new }
     ensures stays { (n : ℕ) → IsLoaded tables.old n → IsLoaded tables.new n }
     ensures next { OnOk result (WhereTold (S.files store.old)
         (λ files. IsNext files catalog.now tables.old table tables.new)) }
@@ -88,8 +91,10 @@ pub(crate) fn load_all<S: Store>(
     store: &mut S,
     place: &mut FaultPlace,
 ) -> Result<(), Status>
-    requires { All (λ n. n < length catalog.now) numbers.now }
+    requires within { All (λ n. n < length catalog.now) numbers.now }
+    requires shaped { AreShaped catalog.now tables.old }
     ensures loaded { OnOk result (All (λ n. IsLoaded tables.new n) numbers.now) }
+    ensures shaped { AreShaped catalog.now tables.new }
     ensures all { OnOk result (LoadsAll (S.files store.old) catalog.now tables.old numbers.now tables.new) }
     ensures refused { IfErr result (RefusesTables (S.files store.old) catalog.now tables.old numbers.now) }
     ensures reads { result ≡ Err status.ReadFault → AreMissing tables.old numbers.now }

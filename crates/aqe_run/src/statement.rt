@@ -9,6 +9,7 @@ ghost use Rattle.aqe_rules.specs.Analysis.{Analysed};
 ghost use Rattle.aqe_lists.specs.Forms.{AreScansLoaded, IsNarrow, IsOfOneSource, scans as scans_of};
 ghost use Rattle.aqe_analysis.specs.Catalogs.{seen};
 ghost use Rattle.aqe_course.specs.Course.{IsCreated, IsNotAnalysed, IsNotCreated, of_create, of_fault, query as query_of};
+ghost use Rattle.aqe_course.specs.Laws.{HasShapedTables};
 ghost use Rattle.aqe_course.specs.Ending.{IsTextOf, ReadsTables};
 ghost use Rattle.aqe_run.specs.Steps.{AreMissing, IsQueried, IsRunStep, IsSinkStep, LoadsAll, Refuses, RefusesTables, RefusesToWrite, WritesAll, WritesHalf, done_of, is_statement_end, is_step_end, state_of};
 
@@ -51,8 +52,10 @@ fn create_status(why: CreateFault, name: &str, place: &mut FaultPlace) -> Status
 
 /// CREATE TABLE
 fn created(form: &TableForm, made: &mut Made, place: &mut FaultPlace) -> Result<(), Status>
-    requires { done_of made.old < 2 ^ 32 - 1 }
+    requires few { done_of made.old < 2 ^ 32 - 1 }
+    requires shaped { HasShapedTables (state_of made.old) }
     ensures created { OnOk result (IsCreated (state_of made.old) form.now (state_of made.new) []) }
+    ensures shaped { HasShapedTables (state_of made.new) }
     ensures few { done_of made.new ≤ done_of made.old + 1 }
     ensures refused { IfErr result (λ end. IsNotCreated (state_of made.old) form.now end ⊎ (end ≡ status.Memory)) }
     ensures named { IfErr result (λ end. IsTrue (is_step_end end)) }
@@ -117,8 +120,10 @@ fn load_scans<S: Store>(
     store: &mut S,
     place: &mut FaultPlace,
 ) -> Result<(), Status>
-    requires { All (λ n. n < length made.old.catalog) (scans_of plan.now) }
+    requires within { All (λ n. n < length made.old.catalog) (scans_of plan.now) }
+    requires shaped { HasShapedTables (state_of made.old) }
     ensures loaded { OnOk result (AreScansLoaded made.new.tables plan.now) }
+    ensures shaped { HasShapedTables (state_of made.new) }
     ensures all { OnOk result (LoadsAll (S.files store.old) made.old.catalog made.old.tables (scans_of plan.now) made.new.tables) }
     ensures kept { made.new.catalog ≡ made.old.catalog }
     ensures uncounted { made.new.answered ≡ made.old.answered }
@@ -151,7 +156,9 @@ fn evaluated<S: Store>(
     requires narrow { IsNarrow plan.now }
     requires few { made.old.answered < 2 ^ 32 - 1 }
     requires within { All (λ n. n < length made.old.catalog) (scans_of plan.now) }
+    requires shaped { HasShapedTables (state_of made.old) }
     ensures loaded { IfOk result (λ text. LoadsAll (S.files store.old) made.old.catalog made.old.tables (scans_of plan.now) made.new.tables) }
+    ensures shaped { HasShapedTables (state_of made.new) }
     ensures text { IfOk result (λ text. IsTextOf (query_of made.old.answered plan.now made.new.tables) text) }
     ensures kept { made.new.catalog ≡ made.old.catalog }
     ensures counted { IfOk result (λ text. made.new.answered ≡ made.old.answered + 1) }
@@ -181,6 +188,8 @@ fn answered<S: Store>(
 ) -> Result<Bytes, Status>
     requires built { IsTrue (is_query_built tree.now) }
     requires few { made.old.answered < 2 ^ 32 - 1 }
+    requires shaped { HasShapedTables (state_of made.old) }
+    ensures shaped { HasShapedTables (state_of made.new) }
     ensures text { IfOk result (λ text. WhereTold (S.files store.old)
         (λ files. IsQueried files (state_of made.old) tree.now (state_of made.new) text)) }
     ensures kept { made.new.catalog ≡ made.old.catalog }
@@ -207,6 +216,8 @@ fn query<S: Store, O: Sink>(
 ) -> Result<(), Status>
     requires built { IsTrue (is_query_built tree.now) }
     requires few { made.old.answered < 2 ^ 32 - 1 }
+    requires shaped { HasShapedTables (state_of made.old) }
+    ensures shaped { HasShapedTables (state_of made.new) }
     ensures done { OnOk result (WritesAll (S.files store.old) (state_of made.old) (stmt.Query tree.now) (state_of made.new) (O.taken out.old) (O.taken out.new)) }
     ensures kept { made.new.catalog ≡ made.old.catalog }
     ensures few { made.new.answered ≤ made.old.answered + 1 }
@@ -236,6 +247,8 @@ pub(crate) fn carried_out<S: Store, O: Sink>(
 ) -> Result<(), Status>
     requires built { IsTrue (is_statement_built one.now) }
     requires few { done_of made.old < 2 ^ 32 - 1 }
+    requires shaped { HasShapedTables (state_of made.old) }
+    ensures shaped { HasShapedTables (state_of made.new) }
     ensures done { OnOk result (WritesAll (S.files store.old) (state_of made.old) one.now (state_of made.new) (O.taken out.old) (O.taken out.new)) }
     ensures few { done_of made.new ≤ done_of made.old + 1 }
     ensures refused { IfErr result (RefusesToWrite (S.files store.old) (state_of made.old) one.now) }

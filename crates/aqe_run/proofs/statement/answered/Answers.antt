@@ -7,6 +7,7 @@ evaluated-requires g c = record {
   form = plan_form c.args.tree.now c.args.made.now.catalog c.in-Ok.plan c.requires.built c.in-Ok.ensures.plan;
   narrow = plan_narrow c.args.tree.now c.args.made.now.catalog c.in-Ok.plan c.in-Ok.ensures.plan;
   few = c.requires.few;
+  shaped = c.requires.shaped;
   within = plan_within c.args.tree.now c.args.made.now.catalog c.in-Ok.plan c.in-Ok.ensures.plan;
 }
 
