@@ -18,12 +18,11 @@ use Rattle.aqe_trees.specs.declared.query.SortTree.{SortTree}
 use Rattle.aqe_trees.specs.Shapes.{query_tree, union_tree, select_tree, joined_tree}
 use Rattle.aqe_rules.specs.Expressions.{has_aggregate}
 use Rattle.aqe_rules.specs.Selects.{is_empty}
-use Rattle.aqe_rules.specs.QueryForms.{Step}
 use Rattle.aqe_rules.specs.QueryTrees.{made_of_step}
 use Rattle.aqe_rules.proofs.QueryLevels as level
 use Rattle.aqe_built.specs.declared.form.Form.{Form}
 use Rattle.aqe_built.specs.declared.form.Form.TheVariants as form
-use Rattle.aqe_built.specs.Forms.{first, given, calls, calls_if_any, item_calls, clause, having_forms, from_forms, forms, of_query, of_union, of_core, of_select, of_joined, of_source}
+use Rattle.aqe_built.specs.Forms.{first, given, calls_if_any, item_calls, clause, having_forms, from_forms, forms, of_query, of_union, of_core, of_select, of_joined, of_source}
 use Rattle.aqe_built.specs.Built.{is_item_built, is_filter_built}
 
 -- the first of two parts, one behind the other

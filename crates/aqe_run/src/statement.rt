@@ -218,14 +218,16 @@ fn query<S: Store, O: Sink>(
     requires few { made.old.answered < 2 ^ 32 - 1 }
     requires shaped { HasShapedTables (state_of made.old) }
     ensures shaped { HasShapedTables (state_of made.new) }
-    ensures done { OnOk result (WritesAll (S.files store.old) (state_of made.old) (stmt.Query tree.now) (state_of made.new) (O.taken out.old) (O.taken out.new)) }
+    ensures done { OnOk result (WritesAll (S.files store.old) (state_of made.old)
+        (stmt.Query tree.now) (state_of made.new) (O.taken out.old) (O.taken out.new)) }
     ensures kept { made.new.catalog ≡ made.old.catalog }
     ensures few { made.new.answered ≤ made.old.answered + 1 }
     ensures refused { IfErr result (RefusesToWrite (S.files store.old) (state_of made.old) (stmt.Query tree.now)) }
     ensures reads { result ≡ Err status.ReadFault → ReadsTables (state_of made.old) (stmt.Query tree.now) }
     ensures named { IfErr result (λ end. IsTrue (is_statement_end end)) }
     ensures silent { IfErr result (λ end. end ≢ status.WriteFault → O.taken out.new ≡ O.taken out.old) }
-    ensures front { result ≡ Err status.WriteFault → WritesHalf (S.files store.old) (state_of made.old) (stmt.Query tree.now) (O.taken out.old) (O.taken out.new) }
+    ensures front { result ≡ Err status.WriteFault
+        → WritesHalf (S.files store.old) (state_of made.old) (stmt.Query tree.now) (O.taken out.old) (O.taken out.new) }
     ensures sink { IsSinkStep status.WriteFault (O.faults out.old) (O.faults out.new) result }
     ensures step { IsRunStep S.files S.faults S.misses store.old store.new result }
 {

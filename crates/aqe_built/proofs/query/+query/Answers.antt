@@ -1,4 +1,4 @@
-use Rattle.std.proofs.Common.{◌≡◌, ◌∙◌, ap, not}
+use Rattle.std.proofs.Common.{◌∙◌, ap, not}
 use Rattle.std.specs.Bool.{then_some}
 use Rattle.aqe_built.specs.declared.form.Form.TheVariants as form
 use Rattle.aqe_built.proofs.FirstForms.{query_first, union_first, joined_first, select_first}
