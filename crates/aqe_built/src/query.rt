@@ -1,11 +1,13 @@
-//! Queries that are carried out so far.
+//! The first form of a query that is not carried out so far. Each function here answers for its part of the tree.
 
 ghost use Rattle.std.specs.Prelude.{◌≡◌, map};
 ghost use Rattle.std.specs.List.{list_all};
 ghost use Rattle.aqe_built.specs.Built as spec;
+ghost use Rattle.aqe_built.specs.Forms.{first, from_forms, of_query, of_union, of_core, of_select, of_joined, of_source};
 ghost use Rattle.aqe_rules.specs.Selects as select;
 
 use crate::calls::has_aggregate;
+use crate::form::Form;
 use aqe_script::parts::{joined_parts, query_parts, select_parts, union_parts};
 use aqe_trees::{
     CoreTree, ItemTree, JoinedTree, OrTree, QueryTree, SelectTree, SourceTree, UnionTree,
@@ -52,75 +54,84 @@ fn is_filter_built(filter: &Option<OrTree>) -> bool
 }
 
 /// Whether the query is carried out so far.
-#[cycle(query)]
 pub fn is_query_built(query: &QueryTree) -> bool
     ensures { result ≡ spec.is_query_built query.now }
 {
-    let (body, sorts, limit, offset) = query_parts(query);
-    is_union_built(body) && is_empty(sorts) && limit.is_none() && offset.is_none()
+    form_of_query(query).is_none()
 }
 
-/// Whether there is one core, which is carried out.
+/// That of a query.
 #[cycle(query)]
-fn is_union_built(tree: &UnionTree) -> bool
-    ensures { result ≡ spec.is_union_built tree.now }
+pub(crate) fn form_of_query(query: &QueryTree) -> Option<Form>
+    ensures { result ≡ first (of_query query.now) }
 {
-    let (first, rest) = union_parts(tree);
-    is_core_built(first) && is_empty(rest)
+    let (body, sorts, limit, offset) = query_parts(query);
+    form_of_union(body)
+        .or((!is_empty(sorts)).then_some(Form::OrderBy))
+        .or(limit.is_some().then_some(Form::Limit))
+        .or(offset.is_some().then_some(Form::Offset))
 }
 
-/// Whether the core is carried out.
+/// That of cores, between which UNION stands.
 #[cycle(query)]
-fn is_core_built(tree: &CoreTree) -> bool
-    ensures { result ≡ spec.is_core_built tree.now }
+fn form_of_union(tree: &UnionTree) -> Option<Form>
+    ensures { result ≡ first (of_union tree.now) }
+{
+    let (core, rest) = union_parts(tree);
+    form_of_core(core).or((!is_empty(rest)).then_some(Form::Union))
+}
+
+/// That of a core.
+#[cycle(query)]
+fn form_of_core(tree: &CoreTree) -> Option<Form>
+    ensures { result ≡ first (of_core tree.now) }
 {
     match tree {
-        CoreTree::Paren(inner) => is_query_built(inner.get()),
-        CoreTree::Select(parts) => is_select_built(parts),
+        CoreTree::Paren(inner) => form_of_query(inner.get()),
+        CoreTree::Select(parts) => form_of_select(parts),
     }
 }
 
-/// Whether a SELECT has no clause that is not carried out.
+/// That of a SELECT.
 #[cycle(query)]
-fn is_select_built(tree: &SelectTree) -> bool
-    ensures { result ≡ spec.is_select_built tree.now }
+fn form_of_select(tree: &SelectTree) -> Option<Form>
+    ensures { result ≡ first (of_select tree.now) }
 {
     let (distinct, items, from, filter, group, having) = select_parts(tree);
-    !distinct
-        && are_items_built(items)
-        && is_from_built(from)
-        && is_filter_built(filter)
-        && is_empty(group)
-        && having.is_none()
+    distinct
+        .then_some(Form::Distinct)
+        .or((!are_items_built(items)).then_some(Form::Call))
+        .or(form_of_from(from))
+        .or((!is_filter_built(filter)).then_some(Form::Call))
+        .or((!is_empty(group)).then_some(Form::GroupBy))
+        .or(having.is_some().then_some(Form::Having))
 }
 
-/// Whether FROM is missing, or has one source.
+/// That of the items of FROM, between which a comma stands.
 #[cycle(query)]
-fn is_from_built(sources: &[JoinedTree]) -> bool
-    ensures { result ≡ spec.is_from_built (map spec.is_joined_built sources.now) }
+fn form_of_from(items: &[JoinedTree]) -> Option<Form>
+    ensures { result ≡ first (from_forms (map of_joined items.now)) }
 {
-    let Some((first, rest)) = sources.split_first() else {
-        return true;
-    };
-    is_joined_built(first) && is_empty(rest)
+    let (one, more) = items.split_first()?;
+    form_of_joined(one).or((!is_empty(more)).then_some(Form::Join))
 }
 
-/// Whether nothing is joined to the source.
+/// That of joined sources.
 #[cycle(query)]
-fn is_joined_built(tree: &JoinedTree) -> bool
-    ensures { result ≡ spec.is_joined_built tree.now }
+fn form_of_joined(tree: &JoinedTree) -> Option<Form>
+    ensures { result ≡ first (of_joined tree.now) }
 {
-    let (first, rest) = joined_parts(tree);
-    is_source_built(first) && is_empty(rest)
+    let (source, rest) = joined_parts(tree);
+    form_of_source(source).or((!is_empty(rest)).then_some(Form::Join))
 }
 
-/// Whether the source is a table, or a query that is carried out.
+/// That of a source.
 #[cycle(query)]
-fn is_source_built(tree: &SourceTree) -> bool
-    ensures { result ≡ spec.is_source_built tree.now }
+fn form_of_source(tree: &SourceTree) -> Option<Form>
+    ensures { result ≡ first (of_source tree.now) }
 {
     match tree {
-        SourceTree::Table { .. } => true,
-        SourceTree::Paren { query: inner, .. } => is_query_built(inner.get()),
+        SourceTree::Table { .. } => None,
+        SourceTree::Paren { query: inner, .. } => form_of_query(inner.get()),
     }
 }

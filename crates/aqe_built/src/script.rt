@@ -1,30 +1,36 @@
 //! Scripts that are carried out so far.
 
-ghost use Rattle.std.specs.Prelude.{◌≡◌};
-ghost use Rattle.aqe_built.specs.Built as spec;
+ghost use Rattle.std.specs.Prelude.{◌≡◌, IsTrue, IsFalse, MatchOption};
+ghost use Rattle.aqe_built.specs.Built.{is_script_built};
+ghost use Rattle.aqe_built.specs.Forms.{first, of_statement, of_script};
 
-use crate::query::{is_empty, is_query_built};
+use crate::form::Form;
+use crate::query::{form_of_query, is_empty};
 use aqe_trees::{Script, Stmt};
 
-/// Whether the statement is carried out so far.
-fn is_statement_built(statement: &Stmt) -> bool
-    ensures { result ≡ spec.is_statement_built statement.now }
+/// The first form of a statement that is not carried out so far.
+fn form_of_statement(statement: &Stmt) -> Option<Form>
+    ensures { result ≡ first (of_statement statement.now) }
 {
     match statement {
-        Stmt::CreateTable(form) => is_empty(form.options.slice()),
-        Stmt::Set(_) => false,
-        Stmt::Query(query) => is_query_built(query),
+        Stmt::CreateTable(form) => (!is_empty(form.options.slice())).then_some(Form::Options),
+        Stmt::Set(_) => Some(Form::Set),
+        Stmt::Query(query) => form_of_query(query),
     }
 }
 
-/// Whether each statement of the script is carried out so far.
-pub fn is_script_built(script: &Script) -> bool
-    ensures { result ≡ spec.is_script_built script.now }
+/// The first form of a script that is not carried out so far, in the order in which it is read; none where all are.
+///
+/// Within a SELECT that order is DISTINCT, the select list, FROM, WHERE, GROUP BY, HAVING; behind it stand UNION, ORDER BY,
+/// LIMIT and OFFSET. What stands in parentheses is read where they stand.
+pub fn form_not_built(script: &Script) -> Option<Form>
+    ensures first { result ≡ first (of_script script.now) }
+    ensures built { MatchOption result (IsTrue (is_script_built script.now)) (λ form. IsFalse (is_script_built script.now)) }
 {
     'script: for statement in script.slice() {
-        if !is_statement_built(statement) {
-            return false;
+        if let Some(form) = form_of_statement(statement) {
+            return Some(form);
         }
     }
-    true
+    None
 }

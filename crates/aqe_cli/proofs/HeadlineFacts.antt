@@ -95,7 +95,7 @@ finished end f f' o o' r w nr nw (inr h) = inr (memory_left end h (λ e. nr (r e
 
 pub completes : (told : Option Entries) (words : List (List ℕ)) (path : List ℕ) (opened : Option Open) (old new : Option (List ℕ)) (end : Status) (f f' o o' : ℕ) → Says words (command path)
     → WhereTold told (λ files. Ends files (command path) opened old new end) → (end ≡ status.ReadFault → Rose f f') → (end ≡ status.WriteFault → Rose o o')
-    → Completes told words end f f' o o'
+    → Completes told words end (Rose f f') (Rose o o')
 completes told words path opened old new end f f' o o' h e r w =
     tell told words path opened old new end (λ files said. IsAccepted files said → (Rose f f' → ⊥) → (Rose o o' → ⊥) → (end ≡ status.Done) ⊎ (end ≡ status.Memory)) h e
     (λ files t a nr nw. finished end f f' o o' r w nr nw (t.completes a))

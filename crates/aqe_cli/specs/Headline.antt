@@ -34,8 +34,12 @@ IsTheRefusal told words end = OfCommand told words
 abbrev pub EndsSo : Option Entries → List (List ℕ) → Option Open → Option (List ℕ) → Option (List ℕ) → Status → Type 0
 EndsSo told words opened old new end = OfCommand told words (λ files said. Ends files said opened old new end)
 
--- Where the course has no refusal, and neither the faults of the store nor those of `out` rise, the run is carried out or
--- memory is wanting.
-abbrev pub Completes : Option Entries → List (List ℕ) → Status → ℕ → ℕ → ℕ → ℕ → Type 0
-Completes told words end read read' written written' = OfCommand told words
-    (λ files said. IsAccepted files said → ¬ (Rose read read') → ¬ (Rose written written') → (end ≡ status.Done) ⊎ (end ≡ status.Memory))
+-- a count of a store or a sink rose
+abbrev pub Rises : {S : Type 0} → (S → ℕ) → S → S → Type 0
+Rises count old new = Rose (count old) (count new)
+
+-- Where the course has no refusal, and neither the faults of the store rise (`reading`) nor those of `out` (`writing`), the run
+-- is carried out or memory is wanting.
+abbrev pub Completes : Option Entries → List (List ℕ) → Status → Type 0 → Type 0 → Type 0
+Completes told words end reading writing = OfCommand told words
+    (λ files said. IsAccepted files said → ¬ reading → ¬ writing → (end ≡ status.Done) ⊎ (end ≡ status.Memory))

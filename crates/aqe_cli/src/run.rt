@@ -3,13 +3,11 @@
 ghost use Rattle.std.specs.Prelude.{◌≡◌, ◌≢◌, ◌↔◌, map, string_bytes, IsTrue, Err};
 ghost use Rattle.aqe_base.specs.declared.status.Status.TheVariants as status;
 ghost use Rattle.aqe_store.specs.Told.{WhereTold};
-ghost use Rattle.aqe_tables.specs.Steps.{IsStep};
 ghost use Rattle.aqe_course.specs.Command.{IsMisused, command};
 ghost use Rattle.aqe_course.specs.Ending.{Ends};
-ghost use Rattle.aqe_course.specs.Laws.{EndTells};
 ghost use Rattle.aqe_course.specs.Statuses.{is_answer, is_refusal};
-ghost use Rattle.aqe_run.specs.Steps.{IsSinkStep};
-ghost use Rattle.aqe_cli.specs.Headline.{AnswersAll, Completes, EndsSo, IsRefusedWith, IsTheRefusal};
+ghost use Rattle.aqe_run.specs.Steps.{IsRunEnd, IsSinkStep};
+ghost use Rattle.aqe_cli.specs.Headline.{AnswersAll, Completes, EndsSo, IsRefusedWith, IsTheRefusal, Rises};
 
 use crate::words::script_path;
 use aqe_base::Status;
@@ -30,8 +28,7 @@ fn run<S: Store, O: Sink>(
         (S.opened store.new) (O.taken out.old) (O.taken out.new) result) }
     ensures named { (result ≢ status.Usage) × IsTrue (is_answer result) }
     ensures sink { IsSinkStep {A = Unit {0}} status.WriteFault (O.faults out.old) (O.faults out.new) (Err result) }
-    ensures step { IsStep {A = Unit {0}} status.ReadFault status.Missing (S.files store.old) (S.files store.new)
-        (S.faults store.old) (S.faults store.new) (S.misses store.old) (S.misses store.new) (Err result) }
+    ensures step { IsRunEnd S.files S.faults S.misses store.old store.new result }
 {
     match opened(alloc, path, store, place) {
         Ok(script) => run_script(alloc, script.slice(), store, out, place),
@@ -55,9 +52,8 @@ fn answered<S: Store, O: Sink>(
     ensures always { IsTheRefusal (S.files store.old) (map string_bytes words.now) result }
     ensures ends { EndsSo (S.files store.old) (map string_bytes words.now) (S.opened store.new) (O.taken out.old) (O.taken out.new) result }
     ensures completes { Completes (S.files store.old) (map string_bytes words.now) result
-        (S.faults store.old) (S.faults store.new) (O.faults out.old) (O.faults out.new) }
-    ensures store { IsStep {A = Unit {0}} status.ReadFault status.Missing (S.files store.old) (S.files store.new)
-        (S.faults store.old) (S.faults store.new) (S.misses store.old) (S.misses store.new) (Err result) }
+        (Rises S.faults store.old store.new) (Rises O.faults out.old out.new) }
+    ensures store { IsRunEnd S.files S.faults S.misses store.old store.new result }
     ensures sink { IsSinkStep {A = Unit {0}} status.WriteFault (O.faults out.old) (O.faults out.new) (Err result) }
     ensures named { IsTrue (is_answer result) }
 {
@@ -94,12 +90,11 @@ pub fn run_words<S: Store, O: Sink, E: Sink>(
     // In all: how the run ended, and what stands in `out` after a failure too.
     ensures ends { EndsSo (S.files store.old) (map string_bytes words.now) (S.opened store.new) (O.taken out.old) (O.taken out.new) result }
     ensures completes { Completes (S.files store.old) (map string_bytes words.now) result
-        (S.faults store.old) (S.faults store.new) (O.faults out.old) (O.faults out.new) }
+        (Rises S.faults store.old store.new) (Rises O.faults out.old out.new) }
 
     // Told files stay. No count falls; the store's faults rise with ReadFault, its misses with Missing, and the faults of
     // `out` with WriteFault, and with no other answer.
-    ensures store { IsStep {A = Unit {0}} status.ReadFault status.Missing (S.files store.old) (S.files store.new)
-        (S.faults store.old) (S.faults store.new) (S.misses store.old) (S.misses store.new) (Err result) }
+    ensures store { IsRunEnd S.files S.faults S.misses store.old store.new result }
     ensures sink { IsSinkStep {A = Unit {0}} status.WriteFault (O.faults out.old) (O.faults out.new) (Err result) }
     ensures named { IsTrue (is_answer result) }
 {

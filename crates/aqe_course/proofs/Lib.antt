@@ -1,3 +1,10 @@
 pub mod OneLoading
 pub mod OneCourse
 pub mod Telling
+pub mod ScanFacts
+pub mod Surely
+pub mod SourceEnds
+pub mod TableEnds
+pub mod RunEnds
+pub mod Numbers
+pub mod Shapes

@@ -1,7 +1,6 @@
 -- What the end of a run tells.
-use Rattle.std.proofs.Common.{◌≡◌, ◌⊎◌, inl, inr, ℕ, Bool, true, false, List, [], ◌∷◌, ◌++◌, Option, Some, None, Result, Ok, Err, refl, sym, ap, subst, ◌∙◌, ◌||◌, IsTrue}
-use Rattle.std.specs.Prelude.{IsFalse, if◌then◌else◌, nat_lt, length}
-use Rattle.std.specs.Option.{is_some}
+use Rattle.std.proofs.Common.{◌≡◌, inl, inr, ℕ, List, [], Option, Some, Result, Ok, Err, refl, sym, ap, subst, ◌∙◌, IsTrue}
+use Rattle.std.specs.Prelude.{IsFalse}
 use Rattle.aqe_base.specs.declared.status.Status.{Status}
 use Rattle.aqe_base.specs.declared.status.Status.TheVariants as status
 use Rattle.aqe_store.specs.Files.{Entries}
@@ -9,36 +8,33 @@ use Rattle.aqe_store.specs.Told.{Open}
 use Rattle.aqe_lexer.specs.declared.fault.Fault.{Fault}
 use Rattle.aqe_lexer.specs.declared.fault.Fault.TheVariants as fault
 use Rattle.aqe_lexer.specs.declared.fault.LexFault.{LexFault}
-use Rattle.aqe_lexer.specs.declared.fault.LexFault.TheVariants as lex
 use Rattle.aqe_lexer.specs.Faults.{told_of}
 use Rattle.aqe_lexer.specs.TokenList.{FirstFault}
 use Rattle.aqe_lexer.specs.TokenList.FirstFault.{in_text, at_end, within, between}
 use Rattle.aqe_trees.specs.declared.statement.Stmt.{Stmt}
 use Rattle.aqe_trees.specs.declared.statement.Stmt.TheVariants as statement
-use Rattle.aqe_trees.specs.declared.statement.TableForm.{TableForm}
 use Rattle.aqe_tables.specs.declared.catalog.CatalogTable.{CatalogTable}
 use Rattle.aqe_tables.specs.declared.catalog.CreateFault.{CreateFault}
 use Rattle.aqe_tables.specs.declared.catalog.CreateFault.TheVariants as create
 use Rattle.aqe_tables.specs.declared.fault.LoadFault.{LoadFault}
 use Rattle.aqe_tables.specs.declared.fault.LoadFault.TheVariants as load
-use Rattle.aqe_tables.specs.Catalog.{create_fault}
 use Rattle.aqe_tables.specs.Load.{is_excuse}
 use Rattle.aqe_tables.specs.Loaded.{Slots}
 use Rattle.aqe_tables.proofs.NameFacts.{created_or_named}
 use Rattle.aqe_rules.specs.Outcomes.{Check, refused as refused_check, too_many_operators, too_many_columns}
 use Rattle.aqe_course.specs.Command.{Command}
-use Rattle.aqe_course.specs.Course.{State, Query, IsRefusedStatement, of_create, of_check, of_load}
+use Rattle.aqe_course.specs.Course.{State, IsRefusedStatement, of_create, of_check, of_load}
 use Rattle.aqe_course.specs.Loading.{IsStopped}
 use Rattle.aqe_course.specs.Loading.IsStopped.{here, again, next}
 use Rattle.aqe_course.specs.Opening.{IsNotOpened, IsRefusedSource, Needed, of_lex}
 use Rattle.aqe_course.specs.Opening.IsRefusedSource.{no_tokens, no_sentence, too_deep, not_built}
 use Rattle.aqe_course.specs.Opening.Needed.{there, missing, too_long}
 use Rattle.aqe_course.specs.Opening.IsNotOpened.{no_file, refused as refused_source}
-use Rattle.aqe_course.specs.Ending.{Answers, Ends, IsAccepted, IsDone, IsRefused, RefusesBehind, ScriptEnds, Stops, StopsAtScript, Writes}
+use Rattle.aqe_course.specs.Ending.{Answers, Ends, RefusesBehind, ScriptEnds}
 use Rattle.aqe_course.specs.Ending.IsRefused.{at_once, on_the_way}
 use Rattle.aqe_course.specs.Ending.ScriptEnds.{done, refused, stopped, unwritten}
 use Rattle.aqe_course.specs.Ending.Ends.{not_opened, not_had, carried_out}
-use Rattle.aqe_course.specs.Laws.{EndTells, EndsTell, OneRefusal, RefusalsAreOfTheCourse}
+use Rattle.aqe_course.specs.Laws.{EndTells, EndsTell, RefusalsAreOfTheCourse}
 use Rattle.aqe_course.specs.Statuses.{is_failure, is_refusal}
 use Rattle.aqe_course.proofs.OneCourse.{one_course, done_not_refused}
 

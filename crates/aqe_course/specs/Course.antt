@@ -1,6 +1,6 @@
 -- The course of a run over the files of its store: what each statement does, in order, and where the run is refused. Want of
 -- memory and a store that fails are not in it.
-use Rattle.std.specs.Prelude.{◌≡◌, ◌⊎◌, List, [], ◌∷◌, ◌++◌, None, Some, Err}
+use Rattle.std.specs.Prelude.{◌≡◌, ◌⊎◌, ◌+◌, ℕ, List, [], ◌∷◌, ◌++◌, None, Some, Err}
 use Rattle.aqe_base.specs.declared.status.Status.{Status}
 use Rattle.aqe_base.specs.declared.status.Status.TheVariants as status
 use Rattle.aqe_base.specs.declared.status.AnalysisKind.TheVariants as analysis
@@ -26,26 +26,28 @@ use Rattle.aqe_analysis.specs.Catalogs.{seen}
 use Rattle.aqe_lists.specs.Forms.{scans}
 use Rattle.aqe_course.specs.Loading.{AreLoaded, IsStopped}
 
--- What a run has made by its statements so far: the tables that were created, and those of them that are loaded. A later
--- setting of the script stands here too.
+-- What a run has made by its statements so far: the tables that were created, those of them that are loaded, and how many
+-- queries were answered. Settings of the script will stand here too.
 pub record State : Type 0 where
   pub catalog : List CatalogTable
   pub tables : Slots
+  pub answered : ℕ
 
-abbrev pub state : List CatalogTable → Slots → State
-state catalog tables = record { catalog = catalog; tables = tables }
+abbrev pub state : List CatalogTable → Slots → ℕ → State
+state catalog tables answered = record { catalog = catalog; tables = tables; answered = answered }
 
 abbrev pub nothing : State
-nothing = state [] []
+nothing = state [] [] 0
 
--- A query that was carried out: its plan, and the tables that are loaded by then. Its number and its events stand here too,
--- once there are any.
+-- A query that was carried out: its number, which counts the queries of the script from 0, its plan, and the tables that are
+-- loaded by then. Its events will stand here too.
 pub record Query : Type 0 where
+  pub number : ℕ
   pub plan : Logical
   pub tables : Slots
 
-abbrev pub query : Logical → Slots → Query
-query plan tables = record { plan = plan; tables = tables }
+abbrev pub query : ℕ → Logical → Slots → Query
+query number plan tables = record { number = number; plan = plan; tables = tables }
 
 -- the status of each refusal
 abbrev pub of_create : CreateFault → Status
@@ -78,7 +80,8 @@ of_load load.Memory = status.Memory
 -- CREATE TABLE enters the catalog, and reads nothing
 abbrev pub IsCreated : State → TableForm → State → List Query → Type 0
 IsCreated now form next answered =
-    (create_fault now.catalog form ≡ None) × (next ≡ state (now.catalog ++ catalog_table form ∷ []) now.tables) × (answered ≡ [])
+    (create_fault now.catalog form ≡ None) × (next ≡ state (now.catalog ++ catalog_table form ∷ []) now.tables now.answered)
+    × (answered ≡ [])
 
 -- a query is analysed, and then the tables that its plan scans are loaded, from left to right
 pub record IsAnswered (files : Entries) (now : State) (tree : QueryTree) (next : State) (answered : List Query) : Type 0 where
@@ -86,7 +89,8 @@ pub record IsAnswered (files : Entries) (now : State) (tree : QueryTree) (next :
   pub analysed : Analysed tree (seen now.catalog) plan
   pub loaded : AreLoaded files now.catalog now.tables (scans plan) next.tables
   pub kept : next.catalog ≡ now.catalog
-  pub is : answered ≡ query plan next.tables ∷ []
+  pub counted : next.answered ≡ now.answered + 1
+  pub is : answered ≡ query now.answered plan next.tables ∷ []
 
 -- a statement is carried out
 abbrev pub IsCarriedOut : Entries → State → Stmt → State → List Query → Type 0

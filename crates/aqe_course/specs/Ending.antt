@@ -1,5 +1,5 @@
 -- How a run ends, by its command and the files of its store.
-use Rattle.std.specs.Prelude.{◌≡◌, ◌⊎◌, ℕ, List, [], ◌∷◌, ◌++◌, take, All, IsTrue, Option, IfSome}
+use Rattle.std.specs.Prelude.{◌≡◌, ◌⊎◌, ℕ, List, [], ◌∷◌, ◌++◌, take, All, Option, IfSome}
 use Rattle.std.specs.Io.KnownBytes.{Appends}
 use Rattle.aqe_base.specs.declared.status.Status.{Status}
 use Rattle.aqe_base.specs.declared.status.Status.TheVariants as status
@@ -21,7 +21,6 @@ use Rattle.aqe_texts.specs.ResultText.{result_text}
 use Rattle.aqe_course.specs.Command.{Command}
 use Rattle.aqe_course.specs.Course.{State, nothing, Query, IsRefusedStatement, Runs}
 use Rattle.aqe_course.specs.Opening.{IsOpened, IsNotOpened}
-use Rattle.aqe_course.specs.Statuses.{is_refusal}
 
 -- The course: a run is carried out or refused.
 

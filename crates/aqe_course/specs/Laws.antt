@@ -1,17 +1,21 @@
 -- What holds of the courses and the ends of all runs.
-use Rattle.std.specs.Prelude.{◌≡◌, ◌⊎◌, ⊤, ℕ, List, [], ◌∷◌, Option, IsTrue}
+use Rattle.std.specs.Prelude.{◌≡◌, ◌⊎◌, ◌+◌, ⊤, ℕ, List, [], ◌∷◌, length, slice_get, Option, IfSome, IsSomeAnd, IsTrue}
 use Rattle.aqe_base.specs.declared.status.Status.{Status}
 use Rattle.aqe_base.specs.declared.status.Status.TheVariants as status
 use Rattle.aqe_store.specs.Files.{Entries}
 use Rattle.aqe_store.specs.Told.{Open}
-use Rattle.aqe_tables.specs.Loaded.{table_at}
+use Rattle.aqe_tables.specs.declared.catalog.CatalogTable.{CatalogTable}
+use Rattle.aqe_tables.specs.Load.{IsShaped}
+use Rattle.aqe_tables.specs.Loaded.{Slots, table_at}
 use Rattle.aqe_course.specs.Command.{Command}
-use Rattle.aqe_course.specs.Course.{Query}
+use Rattle.aqe_trees.specs.declared.statement.Stmt.{Stmt}
+use Rattle.aqe_course.specs.Course.{Query, Runs, State, nothing}
 use Rattle.aqe_course.specs.Ending.{Answers, Ends, IsAccepted, IsDone, IsRefused, RefusesBehind}
 use Rattle.aqe_course.specs.Statuses.{is_failure, is_refusal}
 
--- the same plan, over the same loaded tables
+-- the same plan under the same number, over the same loaded tables
 pub record AreAlike (this other : Query) : Type 0 where
+  pub number : this.number ≡ other.number
   pub plan : this.plan ≡ other.plan
   pub tables : (n : ℕ) → table_at this.tables n ≡ table_at other.tables n
 
@@ -40,6 +44,34 @@ DoneIsNotRefused = (files : Entries) (said : Command) (queries others : List Que
 abbrev pub RunsAnswerTheSame : Type 0
 RunsAnswerTheSame = (files : Entries) (said : Command) (those others : List Query)
     → IsDone files said those → IsDone files said others → AreAllAlike those others
+
+-- queries with their numbers, which go on from n
+abbrev pub AreNumbered : ℕ → List Query → Type 0
+AreNumbered n [] = ⊤
+AreNumbered n (query ∷ queries) = (query.number ≡ n) × AreNumbered (n + 1) queries
+
+-- the queries of a run are numbered from 0
+abbrev pub RunsNumberTheirQueries : Type 0
+RunsNumberTheirQueries = (files : Entries) (script left : List Stmt) (queries : List Query) (now : State)
+    → Runs files nothing script queries now left → AreNumbered 0 queries
+
+-- Each loaded table was created, and has the shape of its schema: 1 to 1,000 files, and in each row a value for each column.
+abbrev pub AreShaped : List CatalogTable → Slots → Type 0
+AreShaped catalog slots = (n : ℕ) → IfSome (table_at slots n)
+    (λ loaded. IsSomeAnd (slice_get catalog n) (λ table. IsShaped (length table.form.schema) loaded))
+
+abbrev pub HasShapedTables : State → Type 0
+HasShapedTables now = AreShaped now.catalog now.tables
+
+-- what a run has loaded stays so
+abbrev pub RunsKeepShapes : Type 0
+RunsKeepShapes = (files : Entries) (script left : List Stmt) (queries : List Query) (now : State)
+    → Runs files nothing script queries now left → HasShapedTables now
+
+-- Each run is carried out or refused: none is neither. The definitions compute no test of whether tokens are a script, so that
+-- this says of a run which is not refused that it cannot but be carried out.
+abbrev pub EachRunEnds : Type 0
+EachRunEnds = (files : Entries) (said : Command) → ((queries : List Query) → ¬ (IsDone files said queries)) → ¬ (IsAccepted files said)
 
 -- the refusals of the course are those of `is_refusal`
 abbrev pub RefusalsAreOfTheCourse : Type 0

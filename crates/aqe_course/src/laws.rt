@@ -1,6 +1,6 @@
 //! Laws of the definitions, each the contract of a function that does nothing.
 
-ghost use Rattle.aqe_course.specs.Laws.{DoneIsNotRefused, EndsTell, RefusalsAreOfTheCourse, RunsAnswerTheSame, RunsHaveOneRefusal};
+ghost use Rattle.aqe_course.specs.Laws.{DoneIsNotRefused, EachRunEnds, EndsTell, RefusalsAreOfTheCourse, RunsAnswerTheSame, RunsHaveOneRefusal, RunsNumberTheirQueries, RunsKeepShapes};
 
 /// A run is refused with one status at most, behind the same queries.
 pub fn runs_have_one_refusal()
@@ -15,6 +15,21 @@ pub fn runs_end_in_one_way()
 /// A run that is carried out answers the same queries, however it is taken.
 pub fn runs_answer_the_same()
     ensures { RunsAnswerTheSame }
+{}
+
+/// The queries of a run are numbered from 0, in the order of the script.
+pub fn runs_number_their_queries()
+    ensures { RunsNumberTheirQueries }
+{}
+
+/// What a run has loaded has the shape of its schema.
+pub fn runs_keep_shapes()
+    ensures { RunsKeepShapes }
+{}
+
+/// A run is carried out or refused, and none is neither.
+pub fn each_run_ends()
+    ensures { EachRunEnds }
 {}
 
 /// The refusals of the course are told by their status.

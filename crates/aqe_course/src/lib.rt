@@ -4,6 +4,6 @@
 mod laws;
 
 pub use laws::{
-    ends_tell, refusals_are_of_the_course, runs_answer_the_same, runs_end_in_one_way,
-    runs_have_one_refusal,
+    each_run_ends, ends_tell, refusals_are_of_the_course, runs_answer_the_same,
+    runs_end_in_one_way, runs_have_one_refusal, runs_keep_shapes, runs_number_their_queries,
 };

@@ -1,18 +1,14 @@
--- What the plan of a query scans: tables of the catalog alone, and one source at most where the query is carried out so far.
-use Rattle.std.proofs.Common.{◌≡◌, ℕ, ◌+◌, ◌<◌, ◌≤◌, Bool, true, false, not, cond, List, [], ◌∷◌, ◌++◌, map, length, Option, Some, None, Ok, Err, option_map, arith, refl, sym, ap, subst, ◌∙◌}
-use Rattle.std.specs.Prelude.{All, IsTrue, nat_le, ◌==◌}
+-- A query that is carried out so far has a plan of one source at most.
+use Rattle.std.proofs.Common.{◌≡◌, ℕ, Bool, true, false, not, cond, List, [], ◌∷◌, ◌++◌, map, Option, Some, None, Ok, Err, option_map, refl, sym, ap, subst, ◌∙◌}
+use Rattle.std.specs.Prelude.{All, IsTrue, nat_le}
 use Rattle.std.specs.Option.{unwrap_or}
 use Rattle.std.specs.List.{list_all}
-use Rattle.std.proofs.lemmas.List.Elements.{All-nil, All-cons, All-head, All-tail, All-append, All-map}
+use Rattle.std.proofs.lemmas.List.Elements.{All-nil, All-cons, All-head}
 use Rattle.aqe_base.specs.declared.join_kind.JoinKind.{JoinKind}
-use Rattle.aqe_base.specs.declared.join_kind.JoinKind.TheVariants.{Cross}
-use Rattle.aqe_base.specs.declared.status.AnalysisKind.TheVariants.{UnionWidth}
 use Rattle.aqe_values.specs.declared.schema.Field.{Field}
-use Rattle.aqe_values.specs.declared.sql_type.SqlType.{SqlType}
 use Rattle.aqe_expr.specs.declared.expr.Expr.{Expr}
-use Rattle.aqe_logical.specs.declared.plan.SortKey.{SortKey}
 use Rattle.aqe_logical.specs.declared.plan.Logical.{Logical, Scan}
-use Rattle.aqe_logical.specs.Shapes.{filtered, projected, joined, united}
+use Rattle.aqe_logical.specs.Shapes.{filtered}
 use Rattle.aqe_logical.specs.Columns.{schema_of}
 use Rattle.aqe_logical.specs.WellFormed.{column_limit}
 use Rattle.aqe_trees.specs.declared.expression.OrTree.{OrTree}
@@ -30,24 +26,21 @@ use Rattle.aqe_trees.specs.declared.query.SourceTree.TheVariants.{rolls-Table, r
 use Rattle.aqe_trees.specs.declared.query.ItemTree.{ItemTree}
 use Rattle.aqe_trees.specs.declared.query.SortTree.{SortTree}
 use Rattle.aqe_trees.specs.Shapes.{query_tree, union_tree, select_tree, joined_tree, join_step}
-use Rattle.aqe_rules.specs.Outcomes.{refused, Outcome, upon, provided, if_any, too_many_operators, too_many_columns}
+use Rattle.aqe_rules.specs.Outcomes.{Outcome, upon, provided, if_any, too_many_operators, too_many_columns}
 use Rattle.aqe_rules.specs.declared.typed.Typed.{Typed}
 use Rattle.aqe_rules.specs.declared.names.Named.{Named}
-use Rattle.aqe_rules.specs.Readings.{Call, Place, alike}
+use Rattle.aqe_rules.specs.Readings.{Call, Place}
 use Rattle.aqe_rules.specs.Limits.{operator_limit, operator_count, most_columns, within_limits}
-use Rattle.aqe_rules.specs.QueryForms.{Step}
 use Rattle.aqe_rules.specs.QueryTrees.{made_of_query, made_of_union, made_of_core, made_of_select, made_of_joined, made_of_step, made_of_source}
-use Rattle.aqe_rules.specs.Sources.{Catalog, From, item, from_of, columns_of, numbered, condition, table_named, scanned, table_source, query_source, join_condition, joined_items, join, join_all, cross_all, from_all, kept}
+use Rattle.aqe_rules.specs.Sources.{Catalog, From, item, from_of, columns_of, condition, table_named, scanned, query_source, from_all, kept}
 use Rattle.aqe_rules.specs.Selects.{Output, at, with_aliases, outputs, grouping_keys, is_grouped, is_empty, built, having_condition}
-use Rattle.aqe_rules.specs.Plans.{groups_of, filtered_by, fields_of, projected_to, distinct_if, sortings, hidden_columns, keys_of, sorted_by, without_hidden, hidden_output, shown_columns, no_hidden, ordered}
-use Rattle.aqe_rules.specs.Unions.{common_kinds, has_kinds, cast_columns, cast_fields, cast_side, union_of}
-use Rattle.aqe_rules.specs.Analysis.{Selected, plan_of, hide, sorted_plan, select_parts, calls_if, select_over, Core, unite_all, union_rule, cut, rules, walk, Analysed}
+use Rattle.aqe_rules.specs.Plans.{groups_of, filtered_by, fields_of, projected_to, distinct_if, ordered}
+use Rattle.aqe_rules.specs.Analysis.{Selected, plan_of, sorted_plan, select_parts, calls_if, select_over, Core, cut, rules, walk, Analysed}
 use Rattle.aqe_rules.proofs.Gives.{Gives, IfAny, gives_upon, gives_provided}
-use Rattle.aqe_laws.proofs.OperationsBelow.{either_one}
 use Rattle.aqe_rules.proofs.QueryLevels as level
 use Rattle.aqe_built.specs.Built.{is_item_built, is_from_built, is_query_built, is_union_built, is_core_built, is_select_built, is_joined_built, is_source_built}
 use Rattle.aqe_built.proofs.BuiltParts as parts
-use Rattle.aqe_lists.specs.Forms.{IsOfOneSource, scans}
+use Rattle.aqe_lists.specs.Forms.{IsOfOneSource}
 
 -- Induction over queries, by the parts of each tree.
 
@@ -166,205 +159,8 @@ select-keeps P Q distinct list has_from filter group having sorts grouped from f
     gives_after Q (within_limits (plan_of s (calls_if s.is_grouped from.items list having []) [])) (λ plan. sorted_plan s (calls_if s.is_grouped from.items list having sorts) sorts) (λ plan.
     finish s (calls_if s.is_grouped from.items list having sorts) k.0 k.1 k.2))
 
--- The tables that a plan scans.
-
-abbrev IsBelow : ℕ → ℕ → Type 0
-IsBelow m n = n < m
-
--- a plan scans tables below m alone
-abbrev Within : ℕ → Logical → Type 0
-Within m p = All (IsBelow m) (scans p)
-
-named-within : (name : List ℕ) (tables : Catalog) (n m : ℕ) → n + length tables ≤ m → IfAny (λ (t : ℕ × List Field). t.0 < m) (table_named name tables n)
-named-within name [] n m le = tt
-named-within name (table ∷ tables) n m le =
-    either_one (IfAny (λ (t : ℕ × List Field). t.0 < m)) (alike table.0 name) (Some (n, table.1)) (table_named name tables (n + 1))
-    (omega (arith, le)) (named-within name tables (n + 1) m (omega (arith, le)))
-
-table-within : (m : ℕ) (table : Option (ℕ × List Field)) → IfAny (λ t. t.0 < m) table → IfAny (λ t. Within m (Scan t.0 t.1)) table
-table-within m None h = tt
-table-within m (Some table) h = All-cons (IsBelow m) table.0 [] h (All-nil (IsBelow m))
-
-module _ (m : ℕ) where
-  abbrev FromWithin : From → Type 0
-  FromWithin f = Within m f.plan
-
-  scanned-within : (name : List ℕ) (alias : Option (List ℕ)) (table : Option (ℕ × List Field)) → IfAny (λ (t : ℕ × List Field). t.0 < m) table → Gives FromWithin (scanned name alias table)
-  scanned-within name alias table h = scanned-keeps (Within m) name alias table (table-within m table h)
-
-  join-within : (kind : JoinKind) (on : Option OrTree) (l r : From) → FromWithin l → FromWithin r → Gives FromWithin (join kind on l r)
-  join-within kind on l r h k =
-      gives_after FromWithin (join_condition on (l.items ++ r.items))
-      (λ on. upon (within_limits (joined kind on l.plan r.plan)) (λ plan. Ok (from_of plan (joined_items kind l.items r.items)))) (λ e.
-      gives_upon (Within m) FromWithin (within_limits (joined kind e l.plan r.plan)) (λ plan. Ok (from_of plan (joined_items kind l.items r.items)))
-      (limits-keep (Within m) (joined kind e l.plan r.plan) (All-append (IsBelow m) (scans l.plan) (scans r.plan) h k)) (λ p q. q))
-
-  groups-within : (grouped : Bool) (keys : List Typed) (calls : List Call) (plan : Logical) → Within m plan → Within m (groups_of grouped keys calls plan)
-  groups-within true keys calls plan h = h
-  groups-within false keys calls plan h = h
-
-  filtered-within : (a : Option Typed) (plan : Logical) → Within m plan → Within m (filtered_by a plan)
-  filtered-within None plan h = h
-  filtered-within (Some a) plan h = h
-
-  distinct-within : (distinct : Bool) (fields : List Field) (plan : Logical) → Within m plan → Within m (distinct_if distinct fields plan)
-  distinct-within true fields plan h = h
-  distinct-within false fields plan h = h
-
-  plan_of-within : (s : Selected) (calls : List Call) (more : List Output) → Within m s.below → Within m (plan_of s calls more)
-  plan_of-within s calls more h =
-      distinct-within s.distinct (fields_of s.outputs) (projected_to (s.outputs ++ more) (filtered_by s.having (groups_of s.is_grouped s.keys calls s.below)))
-      (filtered-within s.having (groups_of s.is_grouped s.keys calls s.below) (groups-within s.is_grouped s.keys calls s.below h))
-
-  sorted-within : (keys : List SortKey) (plan : Logical) → Within m plan → Within m (sorted_by keys plan)
-  sorted-within [] plan h = h
-  sorted-within (first ∷ rest) plan h = h
-
-  without-within : (more : List Typed) (outputs : List Output) (plan : Logical) → Within m plan → Within m (without_hidden more outputs plan)
-  without-within [] outputs plan h = h
-  without-within (a ∷ more) outputs plan h = h
-
-  ordered-within : (sorts : List SortTree) (plan : Logical) → Within m plan → Gives (Within m) (ordered sorts plan)
-  ordered-within sorts plan h =
-      gives_after (Within m) (sortings (no_hidden (numbered None 0 (schema_of plan))) (numbered None 0 (schema_of plan)) sorts)
-      (λ all. Ok (sorted_by (keys_of 0 all sorts) plan)) (λ all. sorted-within (keys_of 0 all sorts) plan h)
-
-  sorted_plan-within : (s : Selected) (calls : List Call) (sorts : List SortTree) → Within m s.below → Gives (Within m) (sorted_plan s calls sorts)
-  sorted_plan-within s calls sorts h =
-      gives_after (Within m) (sortings (hide s calls) (shown_columns s.outputs) sorts)
-      (λ all. Ok (without_hidden (hidden_columns all) s.outputs (sorted_by (keys_of (length s.outputs) all sorts) (plan_of s calls (map hidden_output (hidden_columns all)))))) (λ all.
-      without-within (hidden_columns all) s.outputs (sorted_by (keys_of (length s.outputs) all sorts) (plan_of s calls (map hidden_output (hidden_columns all))))
-      (sorted-within (keys_of (length s.outputs) all sorts) (plan_of s calls (map hidden_output (hidden_columns all))) (plan_of-within s calls (map hidden_output (hidden_columns all)) h)))
-
-  select-within : (distinct : Bool) (list : List ItemTree) (has_from : Bool) (filter : Option OrTree) (group : List OrTree) (having : Option OrTree) (sorts : List SortTree) (from : From) → FromWithin from →
-      Gives (Within m) (select_over distinct list has_from filter group having sorts from)
-  select-within distinct list has_from filter group having sorts from h =
-      select-keeps (Within m) (Within m) distinct list has_from filter group having sorts (is_grouped list group having sorts) from (λ condition p k. k) h
-      (λ s calls below d g. sorted_plan-within s calls sorts below)
-
-  side-within : (kinds : List SqlType) (plan : Logical) → Within m plan → Within m (cast_side kinds plan)
-  side-within kinds plan h =
-      either_one (Within m) (has_kinds kinds (schema_of plan)) plan (projected (cast_columns 0 kinds (schema_of plan)) (cast_fields kinds (schema_of plan)) plan) h h
-
-  union-within : (distinct : Bool) (left right : Logical) → Within m left → Within m right → Gives (Within m) (union_of distinct left right)
-  union-within distinct left right h k =
-      gives_after (Within m) (common_kinds (schema_of left) (schema_of right))
-      (λ kinds. provided (length (schema_of left) == length (schema_of right)) (refused UnionWidth [])
-      (within_limits (distinct_if distinct (schema_of (cast_side kinds left)) (united (cast_side kinds left) (cast_side kinds right))))) (λ kinds.
-      gives_provided (Within m) (length (schema_of left) == length (schema_of right)) (refused UnionWidth [])
-      (within_limits (distinct_if distinct (schema_of (cast_side kinds left)) (united (cast_side kinds left) (cast_side kinds right))))
-      (limits-keep (Within m) (distinct_if distinct (schema_of (cast_side kinds left)) (united (cast_side kinds left) (cast_side kinds right)))
-      (distinct-within distinct (schema_of (cast_side kinds left)) (united (cast_side kinds left) (cast_side kinds right))
-      (All-append (IsBelow m) (scans (cast_side kinds left)) (scans (cast_side kinds right)) (side-within kinds left h) (side-within kinds right k)))))
-
-  cut-within : (limit offset : Option ℕ) (plan : Logical) → Within m plan → Within m (cut limit offset plan)
-  cut-within None None plan h = h
-  cut-within None (Some n) plan h = h
-  cut-within (Some n) None plan h = h
-  cut-within (Some n) (Some o) plan h = h
-
--- what each part of a query gives over a catalog
-abbrev QueryWithin : (Catalog → Outcome Logical) → Type 0
-QueryWithin query = (catalog : Catalog) → Gives (Within (length catalog)) (query catalog)
-
-abbrev CoreWithin : Core → Type 0
-CoreWithin c = (catalog : Catalog) (sorts : List SortTree) → Gives (Within (length catalog)) (c catalog sorts)
-
-abbrev NextWithin : (Bool × Core) → Type 0
-NextWithin next = CoreWithin next.1
-
-abbrev SourceWithin : (Catalog → Outcome From) → Type 0
-SourceWithin from = (catalog : Catalog) → Gives (FromWithin (length catalog)) (from catalog)
-
-abbrev StepWithin : Step (Catalog → Outcome From) → Type 0
-StepWithin s = SourceWithin s.source
-
-table-source-within : (name : List ℕ) (alias : Option (List ℕ)) → SourceWithin (table_source name alias)
-table-source-within name alias catalog = scanned-within (length catalog) name alias (table_named name catalog 0) (named-within name catalog 0 (length catalog) (omega arith))
-
-join_all-within : (catalog : Catalog) (left : Outcome From) (steps : List (Step (Catalog → Outcome From))) → Gives (FromWithin (length catalog)) left → All StepWithin steps →
-    Gives (FromWithin (length catalog)) (join_all catalog left steps)
-join_all-within catalog left [] h all = h
-join_all-within catalog left (j ∷ js) h all =
-    join_all-within catalog (upon left (λ l. upon (j.source catalog) (λ r. join j.kind j.on l r))) js
-    (gives_upon (FromWithin (length catalog)) (FromWithin (length catalog)) left (λ l. upon (j.source catalog) (λ r. join j.kind j.on l r)) h (λ l p.
-    gives_upon (FromWithin (length catalog)) (FromWithin (length catalog)) (j.source catalog) (λ r. join j.kind j.on l r) (All-head StepWithin j js all catalog) (λ r q.
-    join-within (length catalog) j.kind j.on l r p q)))
-    (All-tail StepWithin j js all)
-
-cross_all-within : (catalog : Catalog) (left : Outcome From) (more : List (Catalog → Outcome From)) → Gives (FromWithin (length catalog)) left → All SourceWithin more →
-    Gives (FromWithin (length catalog)) (cross_all catalog left more)
-cross_all-within catalog left [] h all = h
-cross_all-within catalog left (j ∷ js) h all =
-    cross_all-within catalog (upon left (λ l. upon (j catalog) (λ r. join Cross None l r))) js
-    (gives_upon (FromWithin (length catalog)) (FromWithin (length catalog)) left (λ l. upon (j catalog) (λ r. join Cross None l r)) h (λ l p.
-    gives_upon (FromWithin (length catalog)) (FromWithin (length catalog)) (j catalog) (λ r. join Cross None l r) (All-head SourceWithin j js all catalog) (λ r q.
-    join-within (length catalog) Cross None l r p q)))
-    (All-tail SourceWithin j js all)
-
-from_all-within : (from : List (Catalog → Outcome From)) → All SourceWithin from → SourceWithin (λ catalog. from_all catalog from)
-from_all-within [] h catalog = All-nil (IsBelow (length catalog))
-from_all-within (j ∷ js) h catalog = cross_all-within catalog (j catalog) js (All-head SourceWithin j js h catalog) (All-tail SourceWithin j js h)
-
-unite_all-within : (catalog : Catalog) (left : Outcome Logical) (cs : List (Bool × Core)) → Gives (Within (length catalog)) left → All NextWithin cs →
-    Gives (Within (length catalog)) (unite_all catalog left cs)
-unite_all-within catalog left [] h all = h
-unite_all-within catalog left (c ∷ cs) h all =
-    unite_all-within catalog (upon left (λ l. upon (c.1 catalog []) (λ r. union_of c.0 l r))) cs
-    (gives_upon (Within (length catalog)) (Within (length catalog)) left (λ l. upon (c.1 catalog []) (λ r. union_of c.0 l r)) h (λ l p.
-    gives_upon (Within (length catalog)) (Within (length catalog)) (c.1 catalog []) (λ r. union_of c.0 l r) (All-head NextWithin c cs all catalog []) (λ r q.
-    union-within (length catalog) c.0 l r p q)))
-    (All-tail NextWithin c cs all)
-
-union_rule-within : (first : Core) (cs : List (Bool × Core)) → CoreWithin first → All NextWithin cs → CoreWithin (union_rule first cs)
-union_rule-within first [] h all catalog sorts = h catalog sorts
-union_rule-within first (c ∷ cs) h all catalog sorts =
-    gives_upon (Within (length catalog)) (Within (length catalog)) (unite_all catalog (first catalog []) (c ∷ cs)) (ordered sorts)
-    (unite_all-within catalog (first catalog []) (c ∷ cs) (h catalog []) all) (λ plan p. ordered-within (length catalog) sorts plan p)
-
-paren-within : (query : Catalog → Outcome Logical) → QueryWithin query → CoreWithin (rules.paren query)
-paren-within query h catalog sorts =
-    gives_upon (Within (length catalog)) (Within (length catalog)) (query catalog) (ordered sorts) (h catalog) (λ plan p. ordered-within (length catalog) sorts plan p)
-
-query-within : (union : Core) (sorts : List SortTree) (limit offset : Option ℕ) → CoreWithin union → QueryWithin (rules.query union sorts limit offset)
-query-within union sorts limit offset h catalog =
-    gives_upon (Within (length catalog)) (Within (length catalog)) (union catalog sorts) (λ plan. within_limits (cut limit offset plan)) (h catalog sorts) (λ plan p.
-    limits-keep (Within (length catalog)) (cut limit offset plan) (cut-within (length catalog) limit offset plan p))
-
-select_rule-within : (distinct : Bool) (items : List ItemTree) (from : List (Catalog → Outcome From)) (filter : Option OrTree) (group : List OrTree) (having : Option OrTree) → All SourceWithin from →
-    CoreWithin (rules.select distinct items from filter group having)
-select_rule-within distinct items from filter group having all catalog sorts =
-    gives_upon (FromWithin (length catalog)) (Within (length catalog)) (from_all catalog from) (select_over distinct items (not (is_empty from)) filter group having sorts)
-    (from_all-within from all catalog) (λ f h. select-within (length catalog) distinct items (not (is_empty from)) filter group having sorts f h)
-
-parts-within : Parts (λ t. CoreWithin (made_of_core rules t)) (λ t. SourceWithin (made_of_source rules t)) (λ t. StepWithin (made_of_step rules t)) (λ t. SourceWithin (made_of_joined rules t))
-    (λ t. QueryWithin (made_of_query rules t)) (λ t. CoreWithin (made_of_select rules t)) (λ t. CoreWithin (made_of_union rules t))
-parts-within = record {
-  paren = λ query h. subst CoreWithin (sym (level.of_core_paren rules query)) (paren-within (made_of_query rules query) h);
-  lone = λ select h. subst CoreWithin (sym (level.of_core_select rules select)) h;
-  table = λ name alias. subst SourceWithin (sym (level.of_source_table rules name alias)) (table-source-within name alias);
-  subquery = λ query alias h. subst SourceWithin (sym (level.of_source_paren rules query alias))
-      (λ catalog. query_source-keeps (Within (length catalog)) alias (made_of_query rules query catalog) (h catalog));
-  step = λ kind from on h. subst StepWithin (sym (level.of_step rules kind from on)) h;
-  chain = λ first rest h all. subst SourceWithin (sym (level.of_joined rules first rest))
-      (λ catalog. join_all-within catalog (made_of_source rules first catalog) (map (made_of_step rules) rest) (h catalog) (All-map StepWithin (made_of_step rules) rest all));
-  whole = λ body order limit offset h. subst QueryWithin (sym (level.of_query rules body order limit offset)) (query-within (made_of_union rules body) order limit offset h);
-  select = λ distinct items from filter group having all. subst CoreWithin (sym (level.of_select rules distinct items from filter group having))
-      (select_rule-within distinct items (map (made_of_joined rules) from) filter group having (All-map SourceWithin (made_of_joined rules) from all));
-  union = λ first rest h all. subst CoreWithin (sym (level.of_union rules first rest))
-      (union_rule-within (made_of_core rules first) (map (λ (next : Bool × CoreTree). (next.0, made_of_core rules next.1)) rest) h (All-map NextWithin (λ (next : Bool × CoreTree). (next.0, made_of_core rules next.1)) rest all));
-}
-
-walk-within : (t : QueryTree) → QueryWithin (walk t)
-walk-within = each_query (λ t. CoreWithin (made_of_core rules t)) (λ t. SourceWithin (made_of_source rules t)) (λ t. StepWithin (made_of_step rules t)) (λ t. SourceWithin (made_of_joined rules t))
-    (λ t. QueryWithin (made_of_query rules t)) (λ t. CoreWithin (made_of_select rules t)) (λ t. CoreWithin (made_of_union rules t)) parts-within
-
 given : (P : Logical → Type 0) (o : Outcome Logical) (p : Logical) → Gives P o → o ≡ Ok p → P p
 given P o p h e = subst (Gives P) e h
-
--- each table that a plan scans is one of the catalog
-pub scans_within : (tree : QueryTree) (catalog : Catalog) (p : Logical) → Analysed tree catalog p → All (λ n. n < length catalog) (scans p)
-scans_within tree catalog p e = given (Within (length catalog)) (walk tree catalog) p (walk-within tree catalog) e
 
 -- Plans of one source.
 

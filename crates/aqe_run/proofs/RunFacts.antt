@@ -1,14 +1,11 @@
 -- The steps of a run put together, over the files that its store tells.
-use Rattle.std.proofs.Common.{◌≡◌, ◌⊎◌, inl, inr, ℕ, ◌≤◌, ◌<◌, List, [], ◌∷◌, ◌++◌, length, IsTrue, Option, Some, None, Result, Ok, Err, refl, sym, ap, subst, arith}
+use Rattle.std.proofs.Common.{◌≡◌, ◌⊎◌, inl, inr, ℕ, ◌+◌, ◌≤◌, ◌<◌, List, [], ◌∷◌, length, IsTrue, Option, Some, None, Result, Ok, Err, refl, sym, ap, subst, arith}
 use Rattle.std.specs.Prelude.{All, IfOk, IfErr, IfSome, OnOk}
 use Rattle.std.specs.Io.KnownBytes.{Appends}
-use Rattle.std.proofs.lemmas.List.{length-map}
-use Rattle.std.proofs.lemmas.List.Elements.{All-weaker}
 use Rattle.std.proofs.lemmas.Result.{IfErr-at_err}
 use Rattle.aqe_base.specs.declared.status.Status.{Status}
 use Rattle.aqe_base.specs.declared.status.Status.TheVariants as status
 use Rattle.aqe_values.specs.Bounds.{text_limit}
-use Rattle.aqe_values.specs.declared.schema.Field.{Field}
 use Rattle.aqe_store.specs.Files.{Entries, content_of}
 use Rattle.aqe_store.specs.Told.{Open, WhereTold}
 use Rattle.aqe_store.specs.Sink.{AppendsFront}
@@ -25,16 +22,17 @@ use Rattle.aqe_analysis.specs.Catalogs.{seen}
 use Rattle.aqe_lists.specs.Forms.{IsNarrow, IsOfOneSource, scans}
 use Rattle.aqe_lists.proofs.Narrow.{narrow}
 use Rattle.aqe_course.specs.Command.{command}
-use Rattle.aqe_course.specs.Course.{State, Query, query, IsCreated, IsCarriedOut, IsNotAnalysed, IsRefusedStatement}
+use Rattle.aqe_course.specs.Course.{State, query, IsCreated, IsCarriedOut, IsNotAnalysed, IsRefusedStatement}
 use Rattle.aqe_course.specs.Loading.{AreLoaded}
 use Rattle.aqe_course.specs.Opening.{IsSource, IsRefusedSource, IsOpened, IsNotOpened}
 use Rattle.aqe_course.specs.Opening.Needed.{there, missing, too_long}
 use Rattle.aqe_course.specs.Opening.IsNotOpened.{no_file, refused}
 use Rattle.aqe_course.specs.Ending.{IsTextOf, ReadsTables, StopsAtScript}
 use Rattle.aqe_run.specs.Steps.{AreMissing, AreRefused, IsExcuse, IsNotRead, IsQueried, IsWritten, IsHalfWritten}
-use Rattle.aqe_run.proofs.Told.{told_one, told_then}
+use Rattle.aqe_run.proofs.Told.{told_one}
 use Rattle.aqe_run.proofs.Writing.{writes_none, writes_one}
-use Rattle.aqe_run.proofs.OneSource.{one_source, scans_within}
+use Rattle.aqe_course.proofs.ScanFacts.{scans_within}
+use Rattle.aqe_run.proofs.OneSource.{one_source}
 use Rattle.aqe_run.proofs.ScriptFacts.{few_statements}
 
 -- a script's file that was not read
@@ -90,18 +88,16 @@ pub plan_narrow : (tree : QueryTree) (catalog : List CatalogTable) (plan : Logic
 plan_narrow tree catalog plan h = narrow plan (well_formed tree (seen catalog) plan h).0
 
 pub plan_within : (tree : QueryTree) (catalog : List CatalogTable) (plan : Logical) → Analysed tree (seen catalog) plan → All (λ n. n < length catalog) (scans plan)
-plan_within tree catalog plan h =
-    let same : length (seen catalog) ≡ length catalog = length-map {B = List ℕ × List Field} catalog (λ t. (t.name, t.form.schema)) in
-    All-weaker (λ n. n < length (seen catalog)) (λ n. n < length catalog) (λ n p. omega (arith, p, same)) (scans plan) (scans_within tree (seen catalog) plan h)
+plan_within tree catalog plan h = scans_within tree catalog plan h
 
 -- a query that is analysed, and whose tables are loaded
 pub queried : (told : Option Entries) (now next : State) (tree : QueryTree) (plan : Logical) (r : Result (List ℕ) Status) → Analysed tree (seen now.catalog) plan
-    → IfOk r (λ text. WhereTold told (λ files. AreLoaded files now.catalog now.tables (scans plan) next.tables)) → IfOk r (λ text. IsTextOf (query plan next.tables) text)
-    → next.catalog ≡ now.catalog → IfOk r (λ text. WhereTold told (λ files. IsQueried files now tree next text))
-queried told now next tree plan (Ok text) a l t k =
+    → IfOk r (λ text. WhereTold told (λ files. AreLoaded files now.catalog now.tables (scans plan) next.tables)) → IfOk r (λ text. IsTextOf (query now.answered plan next.tables) text)
+    → next.catalog ≡ now.catalog → IfOk r (λ text. next.answered ≡ now.answered + 1) → IfOk r (λ text. WhereTold told (λ files. IsQueried files now tree next text))
+queried told now next tree plan (Ok text) a l t k n =
     told_one (λ files. AreLoaded files now.catalog now.tables (scans plan) next.tables) (λ files. IsQueried files now tree next text) told
-    (λ files p. record { query = query plan next.tables; is = record { plan = plan; analysed = a; loaded = p; kept = k; is = refl }; has = t }) l
-queried told now next tree plan (Err end) a l t k = tt
+    (λ files p. record { query = query now.answered plan next.tables; is = record { plan = plan; analysed = a; loaded = p; kept = k; counted = n; is = refl }; has = t }) l
+queried told now next tree plan (Err end) a l t k n = tt
 
 -- a query that reads tables
 pub reads_query : (now : State) (tree : QueryTree) (plan : Logical) → Analysed tree (seen now.catalog) plan → AreMissing now.tables (scans plan) → ReadsTables now (statement.Query tree)

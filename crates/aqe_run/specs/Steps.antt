@@ -1,5 +1,5 @@
 -- What each step of a run makes, and how a step may be refused.
-use Rattle.std.specs.Prelude.{◌≡◌, ◌≤◌, ◌⊎◌, ℕ, Bool, true, false, List, [], ◌∷◌, None, Option, All, Result, Err}
+use Rattle.std.specs.Prelude.{◌≡◌, ◌≤◌, ◌+◌, ◌⊎◌, ℕ, length, Bool, true, false, List, [], ◌∷◌, None, Option, All, Result, Err}
 use Rattle.aqe_base.specs.declared.status.Status.{Status}
 use Rattle.aqe_base.specs.declared.status.Status.TheVariants as status
 use Rattle.aqe_base.specs.declared.status.LimitKind.TheVariants as limit
@@ -8,20 +8,28 @@ use Rattle.aqe_store.specs.Causes.{Rose}
 use Rattle.aqe_store.specs.Files.{Entries, IsHeld}
 use Rattle.aqe_store.specs.Reading.{IsLonger}
 use Rattle.aqe_store.specs.Sink.{AppendsFront}
+use Rattle.aqe_store.specs.Told.{Open, WhereTold}
 use Rattle.aqe_trees.specs.declared.query.QueryTree.{QueryTree}
 use Rattle.aqe_trees.specs.declared.statement.Stmt.{Stmt}
 use Rattle.aqe_tables.specs.declared.catalog.CatalogTable.{CatalogTable}
 use Rattle.aqe_tables.specs.declared.fault.LoadFault.{LoadFault}
+use Rattle.aqe_tables.specs.Steps.{IsStep}
 use Rattle.aqe_tables.specs.Loaded.{Slots, IsLoaded, table_at}
-use Rattle.aqe_course.specs.Course.{State, state, nothing, Query, IsAnswered, IsCarriedOut, Runs, of_load}
-use Rattle.aqe_course.specs.Loading.{IsAdded, IsRefusedTable, IsStopped}
-use Rattle.aqe_course.specs.Ending.{IsTextOf, Writes}
+use Rattle.aqe_course.specs.Command.{command}
+use Rattle.aqe_course.specs.Course.{State, state, nothing, Query, IsAnswered, IsCarriedOut, IsRefusedStatement, Runs, of_load}
+use Rattle.aqe_course.specs.Loading.{AreLoaded, IsAdded, IsRefusedTable, IsStopped}
+use Rattle.aqe_course.specs.Ending.{IsTextOf, StopsAtScript, Writes}
+use Rattle.aqe_course.specs.Opening.{IsNotOpened}
 use Rattle.aqe_course.specs.Statuses.{Side, course, store, memory, sink, side_of}
 use Rattle.aqe_run.specs.declared.made.Made.{Made}
 
 -- the state that the program's tables stand for
 abbrev pub state_of : Made → State
-state_of made = state made.catalog made.tables
+state_of made = state made.catalog made.tables made.answered
+
+-- how many statements were carried out
+abbrev pub done_of : Made → ℕ
+done_of made = length made.catalog + made.answered
 
 abbrev pub is_before_text : Side → Bool
 is_before_text course = true
@@ -104,3 +112,44 @@ pub record IsCarriedTo (files : Entries) (script : List Stmt) (now : State) (lef
   pub queries : List Query
   pub runs : Runs files nothing script queries now left
   pub writes : Writes old new queries
+
+-- The words of clauses: the same of whatever store and sink, where the store tells its files.
+
+-- What a step leaves of the store: told files stay, no count falls, and the faults rise with ReadFault, the misses with
+-- Missing, and with no other answer.
+abbrev pub IsRunStep : {S A : Type 0} → (S → Option Entries) → (S → ℕ) → (S → ℕ) → S → S → Result A Status → Type 0
+IsRunStep files faults misses old new result =
+    IsStep status.ReadFault status.Missing (files old) (files new) (faults old) (faults new) (misses old) (misses new) result
+
+-- the same of a step that ends with a status
+abbrev pub IsRunEnd : {S : Type 0} → (S → Option Entries) → (S → ℕ) → (S → ℕ) → S → S → Status → Type 0
+IsRunEnd files faults misses old new end = IsRunStep {A = Unit {0}} files faults misses old new (Err end)
+
+abbrev pub LoadsAll : Option Entries → List CatalogTable → Slots → List ℕ → Slots → Type 0
+LoadsAll told catalog before numbers after = WhereTold told (λ files. AreLoaded files catalog before numbers after)
+
+-- tables are refused, if nothing else is in the way
+abbrev pub RefusesTables : Option Entries → List CatalogTable → Slots → List ℕ → Status → Type 0
+RefusesTables told catalog before numbers end = WhereTold told (λ files. AreRefused files catalog before numbers end ⊎ IsExcuse end)
+
+-- a statement is refused, if nothing else is in the way; a failure to write is, of a statement that writes
+abbrev pub Refuses : Option Entries → State → Stmt → Status → Type 0
+Refuses told now one end = WhereTold told (λ files. IsRefusedStatement files now one end ⊎ IsExcuse end)
+
+abbrev pub RefusesToWrite : Option Entries → State → Stmt → Status → Type 0
+RefusesToWrite told now one end = WhereTold told (λ files. IsRefusedStatement files now one end ⊎ IsWriteExcuse end)
+
+abbrev pub WritesAll : Option Entries → State → Stmt → State → Option (List ℕ) → Option (List ℕ) → Type 0
+WritesAll told now one next old new = WhereTold told (λ files. IsWritten files now one next old new)
+
+abbrev pub WritesHalf : Option Entries → State → Stmt → Option (List ℕ) → Option (List ℕ) → Type 0
+WritesHalf told now one old new = WhereTold told (λ files. IsHalfWritten files now one old new)
+
+-- all statements of a script are carried out
+abbrev pub CarriesOutAll : Option Entries → List Stmt → Option (List ℕ) → Option (List ℕ) → Type 0
+CarriesOutAll told script old new = WhereTold told (λ files. (end : State) × IsCarriedTo files script end [] old new)
+
+-- there is no script, for its cause; or its file is not had
+abbrev pub OpensNone : Option Entries → Option Open → List ℕ → Status → Type 0
+OpensNone told opened path end =
+    WhereTold told (λ files. IsNotOpened files (command path) end ⊎ StopsAtScript opened (command path) end)

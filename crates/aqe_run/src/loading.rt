@@ -4,10 +4,9 @@ ghost use Rattle.std.specs.Prelude.{◌≡◌, ◌<◌, ◌⊎◌, ◌∷◌, �
 ghost use Rattle.aqe_store.specs.Told.{WhereTold};
 ghost use Rattle.aqe_tables.specs.Loaded.{IsLoaded};
 ghost use Rattle.aqe_base.specs.declared.status.Status.TheVariants as status;
-ghost use Rattle.aqe_tables.specs.Steps.{IsStep};
 ghost use Rattle.aqe_course.specs.Course.{of_load};
-ghost use Rattle.aqe_course.specs.Loading.{AreLoaded};
-ghost use Rattle.aqe_run.specs.Steps.{AreMissing, AreRefused, IsExcuse, IsNext, IsNotNext, is_step_end};
+ghost use Rattle.aqe_course.specs.Laws.{AreShaped};
+ghost use Rattle.aqe_run.specs.Steps.{AreMissing, IsExcuse, IsNext, IsNotNext, IsRunStep, LoadsAll, RefusesTables, is_step_end};
 
 use aqe_base::{LimitKind, Status};
 use aqe_store::Store;
@@ -55,8 +54,10 @@ fn load_one<S: Store>(
     store: &mut S,
     place: &mut FaultPlace,
 ) -> Result<(), Status>
-    requires { table < length catalog.now }
+    requires there { table < length catalog.now }
+    requires shaped { AreShaped catalog.now tables.old }
     ensures loaded { OnOk result (IsLoaded tables.new table) }
+    ensures shaped { AreShaped catalog.now tables.new }
     ensures stays { (n : ℕ) → IsLoaded tables.old n → IsLoaded tables.new n }
     ensures next { OnOk result (WhereTold (S.files store.old)
         (λ files. IsNext files catalog.now tables.old table tables.new)) }
@@ -64,8 +65,7 @@ fn load_one<S: Store>(
         (λ files. IsNotNext files catalog.now tables.old table end ⊎ IsExcuse end)) }
     ensures reads { result ≡ Err status.ReadFault → ¬ (IsLoaded tables.old table) }
     ensures named { IfErr result (λ end. IsTrue (is_step_end end)) }
-    ensures step { IsStep status.ReadFault status.Missing (S.files store.old) (S.files store.new) (S.faults store.old)
-        (S.faults store.new) (S.misses store.old) (S.misses store.new) result }
+    ensures step { IsRunStep S.files S.faults S.misses store.old store.new result }
 {
     match tables.load(store, catalog, table) {
         Ok(()) => Ok(()),
@@ -91,16 +91,15 @@ pub(crate) fn load_all<S: Store>(
     store: &mut S,
     place: &mut FaultPlace,
 ) -> Result<(), Status>
-    requires { All (λ n. n < length catalog.now) numbers.now }
+    requires within { All (λ n. n < length catalog.now) numbers.now }
+    requires shaped { AreShaped catalog.now tables.old }
     ensures loaded { OnOk result (All (λ n. IsLoaded tables.new n) numbers.now) }
-    ensures all { OnOk result (WhereTold (S.files store.old)
-        (λ files. AreLoaded files catalog.now tables.old numbers.now tables.new)) }
-    ensures refused { IfErr result (λ end. WhereTold (S.files store.old)
-        (λ files. AreRefused files catalog.now tables.old numbers.now end ⊎ IsExcuse end)) }
+    ensures shaped { AreShaped catalog.now tables.new }
+    ensures all { OnOk result (LoadsAll (S.files store.old) catalog.now tables.old numbers.now tables.new) }
+    ensures refused { IfErr result (RefusesTables (S.files store.old) catalog.now tables.old numbers.now) }
     ensures reads { result ≡ Err status.ReadFault → AreMissing tables.old numbers.now }
     ensures named { IfErr result (λ end. IsTrue (is_step_end end)) }
-    ensures step { IsStep status.ReadFault status.Missing (S.files store.old) (S.files store.new) (S.faults store.old)
-        (S.faults store.new) (S.misses store.old) (S.misses store.new) result }
+    ensures step { IsRunStep S.files S.faults S.misses store.old store.new result }
 {
     let mut left = numbers;
     'tables: while let Some((table, rest)) = next(left) {

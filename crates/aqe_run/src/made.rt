@@ -7,11 +7,13 @@ ghost use Rattle.aqe_run.specs.Steps.{state_of};
 use aqe_tables::{Catalog, Tables};
 use std::alloc::Global;
 
-/// The tables that were created, and those of them that are loaded.
+/// The tables that were created, those of them that are loaded, and how many queries were answered.
 #[derive(Drop)]
 pub(crate) struct Made {
     pub(crate) catalog: Catalog,
     pub(crate) tables: Tables,
+    /// The number of the next query.
+    pub(crate) answered: u32,
 }
 
 impl Made {
@@ -22,6 +24,7 @@ impl Made {
         Made {
             catalog: Catalog::new(alloc),
             tables: Tables::new(alloc),
+            answered: 0,
         }
     }
 }

@@ -8,14 +8,12 @@ ghost use Rattle.aqe_store.specs.Told.{WhereTold};
 ghost use Rattle.aqe_lexer.specs.TokenList.{IsTokenList};
 ghost use Rattle.aqe_built.specs.Built.{is_script_built};
 ghost use Rattle.aqe_syntax.specs.Causes.{IsTaken};
-ghost use Rattle.aqe_tables.specs.Steps.{IsStep};
 ghost use Rattle.aqe_course.specs.Command.{command};
-ghost use Rattle.aqe_course.specs.Ending.{StopsAtScript};
-ghost use Rattle.aqe_course.specs.Opening.{IsOpened, IsNotOpened, IsSource, IsRefusedSource, of_lex};
-ghost use Rattle.aqe_run.specs.Steps.{IsExcuse, IsNotRead, is_step_end};
+ghost use Rattle.aqe_course.specs.Opening.{IsOpened, IsSource, IsRefusedSource, of_lex};
+ghost use Rattle.aqe_run.specs.Steps.{IsExcuse, IsNotRead, IsRunStep, OpensNone, is_step_end};
 
 use aqe_base::{Bytes, LimitKind, Status, SyntaxKind};
-use aqe_built::is_script_built;
+use aqe_built::form_not_built;
 use aqe_lexer::{LexFault, Tokens, tokens};
 use aqe_store::{ReadFail, Store, read_all};
 use aqe_syntax::{SyntaxFault, parse};
@@ -40,8 +38,7 @@ fn read_source<S: Store>(
         (λ files. IsNotRead files path.now end ⊎ IsExcuse end)) }
     ensures at_path { result ≡ Err status.ReadFault → IfSome (S.opened store.new) (λ file. file.0 ≡ path.now) }
     ensures named { IfErr result (λ end. IsTrue (is_step_end end)) }
-    ensures step { IsStep status.ReadFault status.Missing (S.files store.old) (S.files store.new) (S.faults store.old)
-        (S.faults store.new) (S.misses store.old) (S.misses store.new) result }
+    ensures step { IsRunStep S.files S.faults S.misses store.old store.new result }
 {
     match read_all(alloc, store, path, SCRIPT_LIMIT) {
         Ok(bytes) => Ok(bytes),
@@ -123,7 +120,8 @@ fn script_of(alloc: Global, source: &[u8], place: &mut FaultPlace) -> Result<Scr
 {
     let tokens = tokens_of(alloc, source, place)?;
     let script = statements_of(alloc, source, &tokens, place)?;
-    if !is_script_built(&script) {
+    if let Some(form) = form_not_built(&script) {
+        place.note(form.text());
         return Err(Status::NotBuilt);
     }
     Ok(script)
@@ -142,12 +140,9 @@ pub fn opened<S: Store>(
         (λ files. IsOpened files (command path.now) script)) }
     ensures built { IfOk result (λ script. IsTrue (is_script_built script)) }
     ensures few { IfOk result (λ script. length script ≤ 67108865) }
-    ensures refused { IfErr result (λ end. WhereTold (S.files store.old)
-        (λ files. IsNotOpened files (command path.now) end
-        ⊎ StopsAtScript (S.opened store.new) (command path.now) end)) }
+    ensures refused { IfErr result (OpensNone (S.files store.old) (S.opened store.new) path.now) }
     ensures named { IfErr result (λ end. IsTrue (is_step_end end)) }
-    ensures step { IsStep status.ReadFault status.Missing (S.files store.old) (S.files store.new) (S.faults store.old)
-        (S.faults store.new) (S.misses store.old) (S.misses store.new) result }
+    ensures step { IsRunStep S.files S.faults S.misses store.old store.new result }
 {
     let source = read_source(alloc, path, store, place)?;
     script_of(alloc, source.slice(), place)

@@ -3,12 +3,10 @@
 ghost use Rattle.std.specs.Prelude.{◌≡◌, ◌≢◌, ◌≤◌, ◌<◌, ◌-◌, ◌^◌, ◌∷◌, [], length, IsTrue, IfErr, OnOk, MatchOption, Err};
 ghost use Rattle.aqe_base.specs.declared.status.Status.TheVariants as status;
 ghost use Rattle.aqe_store.specs.Told.{WhereTold};
-ghost use Rattle.aqe_tables.specs.Steps.{IsStep};
 ghost use Rattle.aqe_built.specs.Built.{is_script_built};
-ghost use Rattle.aqe_course.specs.Course.{State as Standing};
 ghost use Rattle.aqe_course.specs.Ending.{ScriptEnds};
 ghost use Rattle.aqe_course.specs.Statuses.{is_answer};
-ghost use Rattle.aqe_run.specs.Steps.{IsCarriedTo, IsSinkStep, is_statement_end};
+ghost use Rattle.aqe_run.specs.Steps.{CarriesOutAll, IsRunEnd, IsRunStep, IsSinkStep, is_statement_end};
 
 use crate::made::Made;
 use crate::statement::carried_out;
@@ -38,14 +36,12 @@ fn all_carried_out<S: Store, O: Sink>(
 ) -> Result<(), Status>
     requires built { IsTrue (is_script_built script.now) }
     requires few { length script.now < 2 ^ 32 - 1 }
-    ensures done { OnOk result (WhereTold (S.files store.old)
-        (λ files. (end : Standing) × IsCarriedTo files script.now end [] (O.taken out.old) (O.taken out.new))) }
+    ensures done { OnOk result (CarriesOutAll (S.files store.old) script.now (O.taken out.old) (O.taken out.new)) }
     ensures early { IfErr result (λ end. WhereTold (S.files store.old)
         (λ files. ScriptEnds files script.now (O.taken out.old) (O.taken out.new) end)) }
     ensures named { IfErr result (λ end. IsTrue (is_statement_end end)) }
     ensures sink { IsSinkStep status.WriteFault (O.faults out.old) (O.faults out.new) result }
-    ensures step { IsStep status.ReadFault status.Missing (S.files store.old) (S.files store.new) (S.faults store.old)
-        (S.faults store.new) (S.misses store.old) (S.misses store.new) result }
+    ensures step { IsRunStep S.files S.faults S.misses store.old store.new result }
 {
     let mut made = Made::new(alloc);
     let mut left = script;
@@ -73,8 +69,7 @@ pub fn run_script<S: Store, O: Sink>(
         (λ files. ScriptEnds files script.now (O.taken out.old) (O.taken out.new) result) }
     ensures named { (result ≢ status.Usage) × IsTrue (is_answer result) }
     ensures sink { IsSinkStep {A = Unit {0}} status.WriteFault (O.faults out.old) (O.faults out.new) (Err result) }
-    ensures step { IsStep {A = Unit {0}} status.ReadFault status.Missing (S.files store.old) (S.files store.new)
-        (S.faults store.old) (S.faults store.new) (S.misses store.old) (S.misses store.new) (Err result) }
+    ensures step { IsRunEnd S.files S.faults S.misses store.old store.new result }
 {
     match all_carried_out(alloc, script, store, out, place) {
         Ok(()) => Status::Done,

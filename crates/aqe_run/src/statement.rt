@@ -1,20 +1,17 @@
 //! One statement of a script.
 
-ghost use Rattle.std.specs.Prelude.{◌≡◌, ◌≢◌, All, ◌<◌, ◌≤◌, ◌+◌, ◌-◌, ◌^◌, ◌⊎◌, ◌∷◌, [], Err, length, IsTrue, IfErr, IfOk, OnOk};
+ghost use Rattle.std.specs.Prelude.{◌≡◌, ◌≢◌, All, ◌<◌, ◌≤◌, ◌+◌, ◌-◌, ◌^◌, ◌⊎◌, ◌∷◌, [], Err, length, IsTrue, IfErr, IfOk, OnErr, OnOk, ℕ};
 ghost use Rattle.aqe_base.specs.declared.status.Status.TheVariants as status;
-ghost use Rattle.aqe_trees.specs.declared.statement.Stmt.TheVariants as statement;
+ghost use Rattle.aqe_trees.specs.declared.statement.Stmt.TheVariants as stmt;
 ghost use Rattle.aqe_store.specs.Told.{WhereTold};
 ghost use Rattle.aqe_built.specs.Built.{is_query_built, is_statement_built};
 ghost use Rattle.aqe_rules.specs.Analysis.{Analysed};
 ghost use Rattle.aqe_lists.specs.Forms.{AreScansLoaded, IsNarrow, IsOfOneSource, scans as scans_of};
-ghost use Rattle.aqe_lists.specs.LoadedTables.{tables_of};
-ghost use Rattle.aqe_logical.specs.Answers.{AnswerOf};
 ghost use Rattle.aqe_analysis.specs.Catalogs.{seen};
-ghost use Rattle.aqe_tables.specs.Steps.{IsStep};
-ghost use Rattle.aqe_course.specs.Course.{IsCreated, IsNotAnalysed, IsNotCreated, IsRefusedStatement, of_create, of_fault, query as query_of};
+ghost use Rattle.aqe_course.specs.Course.{IsCreated, IsNotAnalysed, IsNotCreated, of_create, of_fault, query as query_of};
+ghost use Rattle.aqe_course.specs.Laws.{HasShapedTables};
 ghost use Rattle.aqe_course.specs.Ending.{IsTextOf, ReadsTables};
-ghost use Rattle.aqe_course.specs.Loading.{AreLoaded};
-ghost use Rattle.aqe_run.specs.Steps.{AreMissing, AreRefused, IsExcuse, IsHalfWritten, IsQueried, IsSinkStep, IsWriteExcuse, IsWritten, is_statement_end, is_step_end, state_of};
+ghost use Rattle.aqe_run.specs.Steps.{AreMissing, IsQueried, IsRunStep, IsSinkStep, LoadsAll, Refuses, RefusesTables, RefusesToWrite, WritesAll, WritesHalf, done_of, is_statement_end, is_step_end, state_of};
 
 use crate::loading::load_all;
 use crate::made::Made;
@@ -55,9 +52,11 @@ fn create_status(why: CreateFault, name: &str, place: &mut FaultPlace) -> Status
 
 /// CREATE TABLE
 fn created(form: &TableForm, made: &mut Made, place: &mut FaultPlace) -> Result<(), Status>
-    requires { length made.old.catalog < 2 ^ 32 - 1 }
+    requires few { done_of made.old < 2 ^ 32 - 1 }
+    requires shaped { HasShapedTables (state_of made.old) }
     ensures created { OnOk result (IsCreated (state_of made.old) form.now (state_of made.new) []) }
-    ensures few { length made.new.catalog ≤ length made.old.catalog + 1 }
+    ensures shaped { HasShapedTables (state_of made.new) }
+    ensures few { done_of made.new ≤ done_of made.old + 1 }
     ensures refused { IfErr result (λ end. IsNotCreated (state_of made.old) form.now end ⊎ (end ≡ status.Memory)) }
     ensures named { IfErr result (λ end. IsTrue (is_step_end end)) }
 {
@@ -106,7 +105,7 @@ fn printed(alloc: Global, plan: &Logical, tables: &Tables) -> Result<Bytes, Memo
     requires form { IsOfOneSource plan.now }
     requires narrow { IsNarrow plan.now }
     requires loaded { AreScansLoaded tables.now plan.now }
-    ensures { IfOk result (λ text. IsTextOf (query_of plan.now tables.now) text) }
+    ensures { IfOk result (λ text. (number : ℕ) → IsTextOf (query_of number plan.now tables.now) text) }
 {
     let rows = rows_of(alloc, plan, tables)?;
     let schema = schema_of(alloc, plan)?;
@@ -121,17 +120,17 @@ fn load_scans<S: Store>(
     store: &mut S,
     place: &mut FaultPlace,
 ) -> Result<(), Status>
-    requires { All (λ n. n < length made.old.catalog) (scans_of plan.now) }
+    requires within { All (λ n. n < length made.old.catalog) (scans_of plan.now) }
+    requires shaped { HasShapedTables (state_of made.old) }
     ensures loaded { OnOk result (AreScansLoaded made.new.tables plan.now) }
-    ensures all { OnOk result (WhereTold (S.files store.old)
-        (λ files. AreLoaded files made.old.catalog made.old.tables (scans_of plan.now) made.new.tables)) }
+    ensures shaped { HasShapedTables (state_of made.new) }
+    ensures all { OnOk result (LoadsAll (S.files store.old) made.old.catalog made.old.tables (scans_of plan.now) made.new.tables) }
     ensures kept { made.new.catalog ≡ made.old.catalog }
-    ensures refused { IfErr result (λ end. WhereTold (S.files store.old)
-        (λ files. AreRefused files made.old.catalog made.old.tables (scans_of plan.now) end ⊎ IsExcuse end)) }
+    ensures uncounted { made.new.answered ≡ made.old.answered }
+    ensures refused { IfErr result (RefusesTables (S.files store.old) made.old.catalog made.old.tables (scans_of plan.now)) }
     ensures reads { result ≡ Err status.ReadFault → AreMissing made.old.tables (scans_of plan.now) }
     ensures named { IfErr result (λ end. IsTrue (is_step_end end)) }
-    ensures step { IsStep status.ReadFault status.Missing (S.files store.old) (S.files store.new) (S.faults store.old)
-        (S.faults store.new) (S.misses store.old) (S.misses store.new) result }
+    ensures step { IsRunStep S.files S.faults S.misses store.old store.new result }
 {
     let Ok(numbers) = scans(alloc, plan) else {
         return Err(Status::Memory);
@@ -155,21 +154,26 @@ fn evaluated<S: Store>(
 ) -> Result<Bytes, Status>
     requires form { IsOfOneSource plan.now }
     requires narrow { IsNarrow plan.now }
+    requires few { made.old.answered < 2 ^ 32 - 1 }
     requires within { All (λ n. n < length made.old.catalog) (scans_of plan.now) }
-    ensures loaded { IfOk result (λ text. WhereTold (S.files store.old)
-        (λ files. AreLoaded files made.old.catalog made.old.tables (scans_of plan.now) made.new.tables)) }
-    ensures text { IfOk result (λ text. IsTextOf (query_of plan.now made.new.tables) text) }
+    requires shaped { HasShapedTables (state_of made.old) }
+    ensures loaded { IfOk result (λ text. LoadsAll (S.files store.old) made.old.catalog made.old.tables (scans_of plan.now) made.new.tables) }
+    ensures shaped { HasShapedTables (state_of made.new) }
+    ensures text { IfOk result (λ text. IsTextOf (query_of made.old.answered plan.now made.new.tables) text) }
     ensures kept { made.new.catalog ≡ made.old.catalog }
-    ensures refused { IfErr result (λ end. WhereTold (S.files store.old)
-        (λ files. AreRefused files made.old.catalog made.old.tables (scans_of plan.now) end ⊎ IsExcuse end)) }
+    ensures counted { IfOk result (λ text. made.new.answered ≡ made.old.answered + 1) }
+    ensures uncounted { OnErr result (made.new.answered ≡ made.old.answered) }
+    ensures refused { IfErr result (RefusesTables (S.files store.old) made.old.catalog made.old.tables (scans_of plan.now)) }
     ensures reads { result ≡ Err status.ReadFault → AreMissing made.old.tables (scans_of plan.now) }
     ensures named { IfErr result (λ end. IsTrue (is_step_end end)) }
-    ensures step { IsStep status.ReadFault status.Missing (S.files store.old) (S.files store.new) (S.faults store.old)
-        (S.faults store.new) (S.misses store.old) (S.misses store.new) result }
+    ensures step { IsRunStep S.files S.faults S.misses store.old store.new result }
 {
     load_scans(alloc, plan, made, store, place)?;
     match printed(alloc, plan, &made.tables) {
-        Ok(text) => Ok(text),
+        Ok(text) => {
+            made.answered += 1;
+            Ok(text)
+        }
         Err(_) => Err(Status::Memory),
     }
 }
@@ -182,16 +186,18 @@ fn answered<S: Store>(
     store: &mut S,
     place: &mut FaultPlace,
 ) -> Result<Bytes, Status>
-    requires { IsTrue (is_query_built tree.now) }
+    requires built { IsTrue (is_query_built tree.now) }
+    requires few { made.old.answered < 2 ^ 32 - 1 }
+    requires shaped { HasShapedTables (state_of made.old) }
+    ensures shaped { HasShapedTables (state_of made.new) }
     ensures text { IfOk result (λ text. WhereTold (S.files store.old)
         (λ files. IsQueried files (state_of made.old) tree.now (state_of made.new) text)) }
     ensures kept { made.new.catalog ≡ made.old.catalog }
-    ensures refused { IfErr result (λ end. WhereTold (S.files store.old)
-        (λ files. IsRefusedStatement files (state_of made.old) (statement.Query tree.now) end ⊎ IsExcuse end)) }
-    ensures reads { result ≡ Err status.ReadFault → ReadsTables (state_of made.old) (statement.Query tree.now) }
+    ensures few { made.new.answered ≤ made.old.answered + 1 }
+    ensures refused { IfErr result (Refuses (S.files store.old) (state_of made.old) (stmt.Query tree.now)) }
+    ensures reads { result ≡ Err status.ReadFault → ReadsTables (state_of made.old) (stmt.Query tree.now) }
     ensures named { IfErr result (λ end. IsTrue (is_step_end end)) }
-    ensures step { IsStep status.ReadFault status.Missing (S.files store.old) (S.files store.new) (S.faults store.old)
-        (S.faults store.new) (S.misses store.old) (S.misses store.new) result }
+    ensures step { IsRunStep S.files S.faults S.misses store.old store.new result }
 {
     match plan_of(alloc, tree, made, place) {
         Ok(plan) => evaluated(alloc, &plan, made, store, place),
@@ -208,20 +214,22 @@ fn query<S: Store, O: Sink>(
     out: &mut O,
     place: &mut FaultPlace,
 ) -> Result<(), Status>
-    requires { IsTrue (is_query_built tree.now) }
-    ensures done { OnOk result (WhereTold (S.files store.old)
-        (λ files. IsWritten files (state_of made.old) (statement.Query tree.now) (state_of made.new) (O.taken out.old) (O.taken out.new))) }
+    requires built { IsTrue (is_query_built tree.now) }
+    requires few { made.old.answered < 2 ^ 32 - 1 }
+    requires shaped { HasShapedTables (state_of made.old) }
+    ensures shaped { HasShapedTables (state_of made.new) }
+    ensures done { OnOk result (WritesAll (S.files store.old) (state_of made.old)
+        (stmt.Query tree.now) (state_of made.new) (O.taken out.old) (O.taken out.new)) }
     ensures kept { made.new.catalog ≡ made.old.catalog }
-    ensures refused { IfErr result (λ end. WhereTold (S.files store.old)
-        (λ files. IsRefusedStatement files (state_of made.old) (statement.Query tree.now) end ⊎ IsWriteExcuse end)) }
-    ensures reads { result ≡ Err status.ReadFault → ReadsTables (state_of made.old) (statement.Query tree.now) }
+    ensures few { made.new.answered ≤ made.old.answered + 1 }
+    ensures refused { IfErr result (RefusesToWrite (S.files store.old) (state_of made.old) (stmt.Query tree.now)) }
+    ensures reads { result ≡ Err status.ReadFault → ReadsTables (state_of made.old) (stmt.Query tree.now) }
     ensures named { IfErr result (λ end. IsTrue (is_statement_end end)) }
     ensures silent { IfErr result (λ end. end ≢ status.WriteFault → O.taken out.new ≡ O.taken out.old) }
-    ensures front { result ≡ Err status.WriteFault → WhereTold (S.files store.old)
-        (λ files. IsHalfWritten files (state_of made.old) (statement.Query tree.now) (O.taken out.old) (O.taken out.new)) }
+    ensures front { result ≡ Err status.WriteFault
+        → WritesHalf (S.files store.old) (state_of made.old) (stmt.Query tree.now) (O.taken out.old) (O.taken out.new) }
     ensures sink { IsSinkStep status.WriteFault (O.faults out.old) (O.faults out.new) result }
-    ensures step { IsStep status.ReadFault status.Missing (S.files store.old) (S.files store.new) (S.faults store.old)
-        (S.faults store.new) (S.misses store.old) (S.misses store.new) result }
+    ensures step { IsRunStep S.files S.faults S.misses store.old store.new result }
 {
     let text = answered(alloc, tree, made, store, place)?;
     match write_all(out, text.slice()) {
@@ -240,20 +248,18 @@ pub(crate) fn carried_out<S: Store, O: Sink>(
     place: &mut FaultPlace,
 ) -> Result<(), Status>
     requires built { IsTrue (is_statement_built one.now) }
-    requires few { length made.old.catalog < 2 ^ 32 - 1 }
-    ensures done { OnOk result (WhereTold (S.files store.old)
-        (λ files. IsWritten files (state_of made.old) one.now (state_of made.new) (O.taken out.old) (O.taken out.new))) }
-    ensures few { length made.new.catalog ≤ length made.old.catalog + 1 }
-    ensures refused { IfErr result (λ end. WhereTold (S.files store.old)
-        (λ files. IsRefusedStatement files (state_of made.old) one.now end ⊎ IsWriteExcuse end)) }
+    requires few { done_of made.old < 2 ^ 32 - 1 }
+    requires shaped { HasShapedTables (state_of made.old) }
+    ensures shaped { HasShapedTables (state_of made.new) }
+    ensures done { OnOk result (WritesAll (S.files store.old) (state_of made.old) one.now (state_of made.new) (O.taken out.old) (O.taken out.new)) }
+    ensures few { done_of made.new ≤ done_of made.old + 1 }
+    ensures refused { IfErr result (RefusesToWrite (S.files store.old) (state_of made.old) one.now) }
     ensures reads { result ≡ Err status.ReadFault → ReadsTables (state_of made.old) one.now }
     ensures named { IfErr result (λ end. IsTrue (is_statement_end end)) }
     ensures silent { IfErr result (λ end. end ≢ status.WriteFault → O.taken out.new ≡ O.taken out.old) }
-    ensures front { result ≡ Err status.WriteFault → WhereTold (S.files store.old)
-        (λ files. IsHalfWritten files (state_of made.old) one.now (O.taken out.old) (O.taken out.new)) }
+    ensures front { result ≡ Err status.WriteFault → WritesHalf (S.files store.old) (state_of made.old) one.now (O.taken out.old) (O.taken out.new) }
     ensures sink { IsSinkStep status.WriteFault (O.faults out.old) (O.faults out.new) result }
-    ensures step { IsStep status.ReadFault status.Missing (S.files store.old) (S.files store.new) (S.faults store.old)
-        (S.faults store.new) (S.misses store.old) (S.misses store.new) result }
+    ensures step { IsRunStep S.files S.faults S.misses store.old store.new result }
 {
     match one {
         Stmt::CreateTable(form) => created(form, made, place),

@@ -22,6 +22,7 @@ tables-preserved g c = record {
       c.in_ok-load_one.ensures.stays c.in_ok-load_one.ensures.loaded;
   stays = λ n l. c.in_ok-load_one.ensures.stays n (c.tables.invariant.stays n l);
   left = λ h. within_rest c.args.tables.now c.args.numbers.now c.in-Some.rest.now c.tables.left.now c.in-Some.table c.in-Some.ensures c.tables.invariant.left h;
+  shaped = c.in_ok-load_one.ensures.shaped;
   within = all_rest (λ n. n < length c.args.catalog.now) c.in-Some.rest.now c.tables.left.now c.in-Some.table c.in-Some.ensures c.tables.invariant.within;
 }
 

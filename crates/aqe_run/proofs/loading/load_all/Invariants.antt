@@ -3,6 +3,7 @@ use Rattle.std.proofs.Common.{◌≡◌, ◌<◌, ℕ, length}
 use Rattle.std.specs.Prelude.{All}
 use Rattle.aqe_store.specs.Told.{KeepsFiles, WhereTold}
 use Rattle.aqe_tables.specs.Loaded.{IsLoaded}
+use Rattle.aqe_course.specs.Laws.{AreShaped}
 use Rattle.aqe_run.proofs.LoadFacts.{Behind, Covers}
 use Rattle.aqe_run.proofs.loading.load_all.Given as goal
 
@@ -15,6 +16,7 @@ invariant-tables g l = record {
   covers : Covers l.tables l.left l.numbers;
   stays : (n : ℕ) → IsLoaded l.fn.tables n → IsLoaded l.tables n;
   left : All (λ n. IsLoaded l.fn.tables n) l.numbers → All (λ n. IsLoaded l.fn.tables n) l.left;
+  shaped : AreShaped l.catalog l.tables;
   within : All (λ n. n < length l.catalog) l.left;
 }
 

@@ -3,6 +3,7 @@ use Rattle.std.proofs.Common.{◌≡◌, ◌≤◌, ◌+◌, length}
 use Rattle.std.specs.Prelude.{IsTrue}
 use Rattle.aqe_store.specs.Told.{KeepsFiles, WhereTold}
 use Rattle.aqe_built.specs.Built.{is_script_built}
+use Rattle.aqe_course.specs.Laws.{HasShapedTables}
 use Rattle.aqe_run.specs.Steps.{IsCarriedTo, state_of}
 use Rattle.aqe_run.proofs.run.all_carried_out.Given as goal
 
@@ -14,7 +15,8 @@ invariant-statements g l = record {
   written : g.O.Sink.faults l.out ≡ g.O.Sink.faults l.fn.out;
   so_far : WhereTold (g.S.Store.files l.fn.store) (λ files. IsCarriedTo files l.script (state_of l.made) l.left (g.O.Sink.taken l.fn.out) (g.O.Sink.taken l.out));
   built : IsTrue (is_script_built l.left);
-  few : length l.made.catalog + length l.left ≤ length l.script;
+  shaped : HasShapedTables (state_of l.made);
+  few : length l.made.catalog + l.made.answered + length l.left ≤ length l.script;
 }
 
 abbrev pub decreases-statements : goal.decreases-statements

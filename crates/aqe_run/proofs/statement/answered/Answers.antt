@@ -4,14 +4,16 @@ use Rattle.aqe_run.proofs.statement.answered.Goals as goal
 
 pub evaluated-requires : goal.evaluated-requires
 evaluated-requires g c = record {
-  form = plan_form c.args.tree.now c.args.made.now.catalog c.in-Ok.plan c.requires c.in-Ok.ensures.plan;
+  form = plan_form c.args.tree.now c.args.made.now.catalog c.in-Ok.plan c.requires.built c.in-Ok.ensures.plan;
   narrow = plan_narrow c.args.tree.now c.args.made.now.catalog c.in-Ok.plan c.in-Ok.ensures.plan;
+  few = c.requires.few;
+  shaped = c.requires.shaped;
   within = plan_within c.args.tree.now c.args.made.now.catalog c.in-Ok.plan c.in-Ok.ensures.plan;
 }
 
 pub returns-in-Ok-clause-text : goal.returns-in-Ok-clause-text
 returns-in-Ok-clause-text g c =
-    queried (g.S.Store.files c.args.store.now) (state_of c.args.made.now) (state_of c.evaluated.new.made) c.args.tree.now c.in-Ok.plan c.evaluated.result c.in-Ok.ensures.plan c.evaluated.ensures.loaded c.evaluated.ensures.text c.evaluated.ensures.kept
+    queried (g.S.Store.files c.args.store.now) (state_of c.args.made.now) (state_of c.evaluated.new.made) c.args.tree.now c.in-Ok.plan c.evaluated.result c.in-Ok.ensures.plan c.evaluated.ensures.loaded c.evaluated.ensures.text c.evaluated.ensures.kept c.evaluated.ensures.counted
 
 pub returns-in-Ok-clause-refused : goal.returns-in-Ok-clause-refused
 returns-in-Ok-clause-refused g c =
