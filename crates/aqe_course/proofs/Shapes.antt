@@ -9,9 +9,9 @@ use Rattle.aqe_store.specs.Files.{Entries}
 use Rattle.aqe_trees.specs.declared.statement.Stmt.{Stmt}
 use Rattle.aqe_trees.specs.declared.statement.Stmt.TheVariants as statement
 use Rattle.aqe_tables.specs.declared.catalog.CatalogTable.{CatalogTable}
-use Rattle.aqe_tables.specs.declared.form.FileForm.{FileForm}
+use Rattle.aqe_records.specs.declared.form.FileForm.{FileForm}
 use Rattle.aqe_tables.specs.declared.loaded.Table.{Table}
-use Rattle.aqe_tables.specs.FileRows.{file_rows, row_of}
+use Rattle.aqe_records.specs.FileRows.{file_rows, row_of}
 use Rattle.aqe_tables.specs.Folder.{DataFile}
 use Rattle.aqe_tables.specs.Load.{AreWide, IsShaped, IsTableOf, files_limit, table_rows}
 use Rattle.aqe_tables.specs.Loaded.{Slots, table_at}
