@@ -6,7 +6,7 @@ use Rattle.aqe_store.specs.Causes.{Rose}
 use Rattle.aqe_store.specs.Files.{Entries}
 use Rattle.aqe_store.specs.Told.{KeepsFiles, Open, WhereTold}
 use Rattle.aqe_trees.specs.declared.statement.Stmt.{Stmt}
-use Rattle.aqe_course.specs.Command.{Command, Says, command}
+use Rattle.aqe_course.specs.Command.{Command, AreWordsOf, command}
 use Rattle.aqe_course.specs.Course.{Query}
 use Rattle.aqe_course.specs.Opening.{IsOpened, IsNotOpened}
 use Rattle.aqe_course.specs.Ending.{Answers, Ends, IsAccepted, IsRefused, RefusesBehind, ScriptEnds, StopsAtScript}
@@ -35,36 +35,36 @@ carried_told told now said opened script old new end k o h =
     (λ files p q. carried_out script p q) o h
 
 -- the words say one command
-said_is : (words : List (List ℕ)) (path : List ℕ) (said : Command) → Says words (command path) → Says words said → said ≡ command path
+said_is : (words : List (List ℕ)) (path : List ℕ) (said : Command) → AreWordsOf words (command path) → AreWordsOf words said → said ≡ command path
 said_is words path said h k =
     let both : codes "run" ∷ path ∷ [] ≡ codes "run" ∷ said.path ∷ [] = sym h ∙ k in
     let same : said.path ≡ path = cc both in
     ap command same
 
-of_said : (told : Option Entries) (words : List (List ℕ)) (path : List ℕ) (F : Entries → Command → Type 0) → Says words (command path) → WhereTold told (λ files. F files (command path))
+of_said : (told : Option Entries) (words : List (List ℕ)) (path : List ℕ) (F : Entries → Command → Type 0) → AreWordsOf words (command path) → WhereTold told (λ files. F files (command path))
     → OfCommand told words F
 of_said told words path F h f said k = subst (λ c. WhereTold told (λ files. F files c)) (sym (said_is words path said h k)) f
 
 -- what the end of the command's run tells
-tell : (told : Option Entries) (words : List (List ℕ)) (path : List ℕ) (opened : Option Open) (old new : Option (List ℕ)) (end : Status) (F : Entries → Command → Type 0) → Says words (command path)
+tell : (told : Option Entries) (words : List (List ℕ)) (path : List ℕ) (opened : Option Open) (old new : Option (List ℕ)) (end : Status) (F : Entries → Command → Type 0) → AreWordsOf words (command path)
     → WhereTold told (λ files. Ends files (command path) opened old new end) → ((files : Entries) → EndTells files (command path) old new end → F files (command path)) → OfCommand told words F
 tell told words path opened old new end F h e f =
     of_said told words path F h
     (told_one (λ files. Ends files (command path) opened old new end) (λ files. F files (command path)) told (λ files p. f files (ends_tell files (command path) opened old new end p)) e)
 
-pub ends_so : (told : Option Entries) (words : List (List ℕ)) (path : List ℕ) (opened : Option Open) (old new : Option (List ℕ)) (end : Status) → Says words (command path)
+pub ends_so : (told : Option Entries) (words : List (List ℕ)) (path : List ℕ) (opened : Option Open) (old new : Option (List ℕ)) (end : Status) → AreWordsOf words (command path)
     → WhereTold told (λ files. Ends files (command path) opened old new end) → EndsSo told words opened old new end
 ends_so told words path opened old new end h e = of_said told words path (λ files said. Ends files said opened old new end) h e
 
-pub answers_all : (told : Option Entries) (words : List (List ℕ)) (path : List ℕ) (opened : Option Open) (old new : Option (List ℕ)) (end : Status) → Says words (command path)
+pub answers_all : (told : Option Entries) (words : List (List ℕ)) (path : List ℕ) (opened : Option Open) (old new : Option (List ℕ)) (end : Status) → AreWordsOf words (command path)
     → WhereTold told (λ files. Ends files (command path) opened old new end) → end ≡ status.Done → AnswersAll told words old new
 answers_all told words path opened old new end h e d = tell told words path opened old new end (λ files said. Answers files said old new) h e (λ files t. t.done d)
 
-pub refused_with : (told : Option Entries) (words : List (List ℕ)) (path : List ℕ) (opened : Option Open) (old new : Option (List ℕ)) (end : Status) → Says words (command path)
+pub refused_with : (told : Option Entries) (words : List (List ℕ)) (path : List ℕ) (opened : Option Open) (old new : Option (List ℕ)) (end : Status) → AreWordsOf words (command path)
     → WhereTold told (λ files. Ends files (command path) opened old new end) → IsTrue (is_refusal end) → IsRefusedWith told words old new end
 refused_with told words path opened old new end h e r = tell told words path opened old new end (λ files said. RefusesBehind files said old new end) h e (λ files t. t.refused r)
 
-pub the_refusal : (told : Option Entries) (words : List (List ℕ)) (path : List ℕ) (opened : Option Open) (old new : Option (List ℕ)) (end : Status) → Says words (command path)
+pub the_refusal : (told : Option Entries) (words : List (List ℕ)) (path : List ℕ) (opened : Option Open) (old new : Option (List ℕ)) (end : Status) → AreWordsOf words (command path)
     → WhereTold told (λ files. Ends files (command path) opened old new end) → IsTheRefusal told words end
 the_refusal told words path opened old new end h e =
     tell told words path opened old new end (λ files said. (queries : List Query) (cause : Status) → IsRefused files said queries cause → (end ≡ cause) ⊎ IsTrue (is_failure end)) h e (λ files t. t.always)
@@ -93,7 +93,7 @@ finished : (end : Status) (f f' o o' : ℕ) → (end ≡ status.ReadFault → Ro
 finished end f f' o o' r w nr nw (inl d) = inl d
 finished end f f' o o' r w nr nw (inr h) = inr (memory_left end h (λ e. nr (r e)) (λ e. nw (w e)))
 
-pub completes : (told : Option Entries) (words : List (List ℕ)) (path : List ℕ) (opened : Option Open) (old new : Option (List ℕ)) (end : Status) (f f' o o' : ℕ) → Says words (command path)
+pub completes : (told : Option Entries) (words : List (List ℕ)) (path : List ℕ) (opened : Option Open) (old new : Option (List ℕ)) (end : Status) (f f' o o' : ℕ) → AreWordsOf words (command path)
     → WhereTold told (λ files. Ends files (command path) opened old new end) → (end ≡ status.ReadFault → Rose f f') → (end ≡ status.WriteFault → Rose o o')
     → Completes told words end (Rose f f') (Rose o o')
 completes told words path opened old new end f f' o o' h e r w =
@@ -101,5 +101,5 @@ completes told words path opened old new end f f' o o' h e r w =
     (λ files t a nr nw. finished end f f' o o' r w nr nw (t.completes a))
 
 -- words that say no command
-pub misused : (told : Option Entries) (words : List (List ℕ)) (F : Entries → Command → Type 0) → ((said : Command) → Says words said → ⊥) → OfCommand told words F
+pub misused : (told : Option Entries) (words : List (List ℕ)) (F : Entries → Command → Type 0) → ((said : Command) → AreWordsOf words said → ⊥) → OfCommand told words F
 misused told words F n said h = absurd (n said h)

@@ -6,7 +6,7 @@ use Rattle.aqe_base.specs.declared.status.Status.TheVariants as status
 use Rattle.aqe_store.specs.Causes.{Rose}
 use Rattle.aqe_store.specs.Files.{Entries}
 use Rattle.aqe_store.specs.Told.{Open, WhereTold}
-use Rattle.aqe_course.specs.Command.{Command, Says}
+use Rattle.aqe_course.specs.Command.{Command, AreWordsOf}
 use Rattle.aqe_course.specs.Course.{Query}
 use Rattle.aqe_course.specs.Ending.{Answers, Ends, IsAccepted, IsRefused, RefusesBehind}
 use Rattle.aqe_course.specs.Statuses.{is_failure}
@@ -14,7 +14,7 @@ use Rattle.std.specs.Prelude.{IsTrue}
 
 -- the words say a command, and the fact holds of it and of the files
 abbrev pub OfCommand : Option Entries → List (List ℕ) → (Entries → Command → Type 0) → Type 0
-OfCommand told words fact = (said : Command) → Says words said → WhereTold told (λ files. fact files said)
+OfCommand told words fact = (said : Command) → AreWordsOf words said → WhereTold told (λ files. fact files said)
 
 -- What success means: the script is carried out, and `out` grew by the printed text of one answer for each of its queries,
 -- in order, and by nothing else.

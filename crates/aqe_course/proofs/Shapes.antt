@@ -14,10 +14,10 @@ use Rattle.aqe_tables.specs.declared.loaded.Table.{Table}
 use Rattle.aqe_records.specs.FileRows.{file_rows, row_of}
 use Rattle.aqe_tables.specs.Folder.{DataFile}
 use Rattle.aqe_tables.specs.Load.{AreWide, IsShaped, IsTableOf, files_limit, table_rows}
-use Rattle.aqe_tables.specs.Loaded.{Slots, table_at}
+use Rattle.aqe_tables.specs.Loaded.{AreShaped, Slots, table_at}
 use Rattle.aqe_course.specs.Course.{IsCarriedOut, Query, Runs, State}
 use Rattle.aqe_course.specs.Course.Runs.{none, more}
-use Rattle.aqe_course.specs.Laws.{AreShaped, HasShapedTables, RunsKeepShapes}
+use Rattle.aqe_course.specs.Laws.{HasShapedTables, RunsKeepShapes}
 use Rattle.aqe_course.specs.Loading.{AreLoaded, IsAdded}
 use Rattle.aqe_course.specs.Loading.AreLoaded.{all, again, next}
 

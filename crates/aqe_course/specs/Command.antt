@@ -9,9 +9,9 @@ abbrev pub command : List ℕ → Command
 command path = record { path = path }
 
 -- the words are `run` and the path
-abbrev pub Says : List (List ℕ) → Command → Type 0
-Says words said = words ≡ codes "run" ∷ said.path ∷ []
+abbrev pub AreWordsOf : List (List ℕ) → Command → Type 0
+AreWordsOf words said = words ≡ codes "run" ∷ said.path ∷ []
 
 -- the words say no command
 abbrev pub IsMisused : List (List ℕ) → Type 0
-IsMisused words = (said : Command) → Says words said → ⊥
+IsMisused words = (said : Command) → AreWordsOf words said → ⊥

@@ -1,12 +1,10 @@
 -- What holds of the courses and the ends of all runs.
-use Rattle.std.specs.Prelude.{◌≡◌, ◌⊎◌, ◌+◌, ⊤, ℕ, List, [], ◌∷◌, length, slice_get, Option, IfSome, IsSomeAnd, IsTrue}
+use Rattle.std.specs.Prelude.{◌≡◌, ◌⊎◌, ◌+◌, ⊤, ℕ, List, [], ◌∷◌, length, Option, IsTrue}
 use Rattle.aqe_base.specs.declared.status.Status.{Status}
 use Rattle.aqe_base.specs.declared.status.Status.TheVariants as status
 use Rattle.aqe_store.specs.Files.{Entries}
 use Rattle.aqe_store.specs.Told.{Open}
-use Rattle.aqe_tables.specs.declared.catalog.CatalogTable.{CatalogTable}
-use Rattle.aqe_tables.specs.Load.{IsShaped}
-use Rattle.aqe_tables.specs.Loaded.{Slots, table_at}
+use Rattle.aqe_tables.specs.Loaded.{AreShaped, table_at}
 use Rattle.aqe_course.specs.Command.{Command}
 use Rattle.aqe_trees.specs.declared.statement.Stmt.{Stmt}
 use Rattle.aqe_course.specs.Course.{Query, Runs, State, nothing}
@@ -55,11 +53,7 @@ abbrev pub RunsNumberTheirQueries : Type 0
 RunsNumberTheirQueries = (files : Entries) (script left : List Stmt) (queries : List Query) (now : State)
     → Runs files nothing script queries now left → AreNumbered 0 queries
 
--- Each loaded table was created, and has the shape of its schema: 1 to 1,000 files, and in each row a value for each column.
-abbrev pub AreShaped : List CatalogTable → Slots → Type 0
-AreShaped catalog slots = (n : ℕ) → IfSome (table_at slots n)
-    (λ loaded. IsSomeAnd (slice_get catalog n) (λ table. IsShaped (length table.form.schema) loaded))
-
+-- each loaded table was created, and has 1 to 1,000 files and in each row a value for each column
 abbrev pub HasShapedTables : State → Type 0
 HasShapedTables now = AreShaped now.catalog now.tables
 

@@ -2,10 +2,9 @@
 
 ghost use Rattle.std.specs.Prelude.{◌≡◌, ◌<◌, ◌⊎◌, ◌∷◌, ℕ, [], All, Err, length, IsTrue, IfErr, OnOk, MatchOption};
 ghost use Rattle.aqe_store.specs.Told.{WhereTold};
-ghost use Rattle.aqe_tables.specs.Loaded.{IsLoaded};
+ghost use Rattle.aqe_tables.specs.Loaded.{AreShaped, IsLoaded};
 ghost use Rattle.aqe_base.specs.declared.status.Status.TheVariants as status;
 ghost use Rattle.aqe_course.specs.Course.{of_load};
-ghost use Rattle.aqe_course.specs.Laws.{AreShaped};
 ghost use Rattle.aqe_run.specs.Steps.{AreMissing, IsExcuse, IsNext, IsNotNext, IsRunStep, LoadsAll, RefusesTables, is_step_end};
 
 use aqe_base::{LimitKind, Status};

@@ -2,8 +2,7 @@
 use Rattle.std.proofs.Common.{◌≡◌, ◌<◌, ℕ, length}
 use Rattle.std.specs.Prelude.{All}
 use Rattle.aqe_store.specs.Told.{KeepsFiles, WhereTold}
-use Rattle.aqe_tables.specs.Loaded.{IsLoaded}
-use Rattle.aqe_course.specs.Laws.{AreShaped}
+use Rattle.aqe_tables.specs.Loaded.{AreShaped, IsLoaded}
 use Rattle.aqe_run.proofs.LoadFacts.{Behind, Covers}
 use Rattle.aqe_run.proofs.loading.load_all.Given as goal
 
