@@ -1,5 +1,5 @@
 use Rattle.std.proofs.Common.{rules, ◌≡◌, true, [], map, refl, sym, subst}
-use Rattle.aqe_trees.specs.declared.query.SelectTree.{SelectTree}
+use Rattle.aqe_trees.specs.declared.query.SelectTree.{SelectTree, the_lemmas}
 use Rattle.aqe_built.specs.Built.{is_select_built}
 use Rattle.aqe_built.proofs.BuiltParts.{select_parts, not_grouped}
 use Rattle.aqe_logical.specs.declared.plan.Logical.{Logical}
@@ -23,6 +23,12 @@ selected-select-requires t c =
     let p = c.select_parts-distinct.result in
     let b = select_parts p.0 p.1.now p.2.now p.3.now p.4.now p.5.now (subst (λ (s : SelectTree). is_select_built s ≡ true) c.select_parts-distinct.ensures c.requires) in
     record { no_groups = rw (b.no_group, b.no_having) (not_grouped p.1.now b.items_built); no_order = refl }
+
+pub selected-from-requires : goal.selected-from-requires
+selected-from-requires t c =
+    let p = c.select_parts-distinct.result in
+    let b = select_parts p.0 p.1.now p.2.now p.3.now p.4.now p.5.now (subst (λ (s : SelectTree). is_select_built s ≡ true) c.select_parts-distinct.ensures c.requires) in
+    (search (rules, the_lemmas), b.from_built)
 
 pub selected-returns : goal.selected-returns
 selected-returns t c =
