@@ -1,0 +1,11 @@
+//! One task: the cells of one part of a stage's body.
+#![tactic(auto)]
+
+mod keeping;
+mod part;
+mod part_rows;
+mod reading;
+mod steps;
+mod task;
+
+pub use task::run_task;
