@@ -1,5 +1,7 @@
 -- When the task of a stage is served, and what it gives.
-use Rattle.std.specs.Prelude.{◌≡◌, ◌≤◌, ◌<◌, ℕ, List, [], Some, slice_get, slice_index_or, All}
+use Rattle.std.specs.Prelude.{◌≡◌, ◌≤◌, ◌<◌, ◌∷◌, ◌++◌, ℕ, List, [], Some, slice_get, slice_index_or, All}
+use Rattle.aqe_base.specs.declared.stage_id.StageId.{StageId}
+use Rattle.aqe_base.specs.declared.ids.TaskId.{TaskId}
 use Rattle.aqe_blocks.specs.Kept.{AllKept, output_at}
 use Rattle.aqe_logical.specs.Answers.{Row, Tables}
 use Rattle.aqe_physical.specs.declared.target.StageKind.{StageKind}
@@ -44,3 +46,7 @@ task_cells tables stages kind body k = cells_of (given_by tables stages) kind (p
 -- cells are those of task k over all stages that serve it
 abbrev pub GivesTask : Tables → AllKept → StageKind → Plan → ℕ → List (List Row) → Type 0
 GivesTask tables kept kind body k made = (stages : Stages) → IsServedTask tables stages kept kind body k → made ≡ task_cells tables stages kind body k
+
+-- to the tasks that were run, each with its stage, one is added at the end: task k of the stage
+abbrev pub HasRun : List (StageId × TaskId) → List (StageId × TaskId) → StageId → ℕ → Type 0
+HasRun old new stage k = new ≡ old ++ (stage, record { 0 = k }) ∷ []

@@ -5,7 +5,9 @@ mod keeping;
 mod part;
 mod part_rows;
 mod reading;
+mod runner;
 mod steps;
 mod task;
 
+pub use runner::{RanTasks, Runner, TaskRunner};
 pub use task::run_task;
