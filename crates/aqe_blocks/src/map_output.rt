@@ -6,7 +6,7 @@ ghost use Rattle.aqe_blocks.specs.Cells.{IsMeasured, cell_of, size_of_cell, size
 use crate::cell::{Sums, copy_of_rows};
 use crate::row_ref::RowsIter;
 use aqe_base::{Listing, Memory, ReduceId};
-use aqe_values::Rows;
+use aqe_values::{Row, Rows};
 use std::alloc::Global;
 use std::marker::Model;
 
@@ -47,6 +47,16 @@ impl MapOutput {
         ensures { result ≡ cell_of self.now r.0 }
     {
         RowsIter::over(self.cells.at(r.0 as usize).slice())
+    }
+
+    /// The rows of the cell of a reducer as a list that is lent; none of a reducer that is not there.
+    pub fn cell(&self, r: ReduceId) -> &[Row]
+        ensures { result.now ≡ cell_of self.now r.0 }
+    {
+        match self.cells.slice().get(r.0 as usize) {
+            Some(rows) => rows.slice(),
+            None => &[],
+        }
     }
 
     /// The size of the cell of a reducer in bytes.

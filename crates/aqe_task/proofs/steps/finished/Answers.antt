@@ -1,0 +1,10 @@
+use Rattle.std.proofs.Common.{◌∙◌, sym, arith}
+use Rattle.aqe_task.specs.Pieces.{rows_in}
+use Rattle.aqe_task.proofs.Widths.{no_wide_finish}
+use Rattle.aqe_task.proofs.steps.finished.Goals as goal
+
+pub returns-then-not-has_room : goal.returns-then-not-has_room
+returns-then-not-has_room c =
+    let none = c.if-not-has_room.true in
+    let room = c.has_room.ensures in
+    c.new.ensures ∙ sym (no_wide_finish c.args.keys c.args.calls.now (rows_in c.args.rows) c.requires.width c.requires.narrow.0 c.requires.narrow.1 (grind (arith, none, room)))

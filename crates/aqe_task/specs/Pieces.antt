@@ -1,0 +1,54 @@
+-- What private functions read and keep.
+use Rattle.std.specs.Prelude.{◌≤◌, ◌<◌, ℕ, List, [], ◌∷◌, flat_map, IsSome}
+use Rattle.std.specs.Option.{unwrap_or}
+use Rattle.aqe_base.specs.declared.cells.Rect.{Rect}
+use Rattle.aqe_blocks.specs.Kept.{AllKept, output_at}
+use Rattle.aqe_blocks.specs.Cells.{cell_of}
+use Rattle.aqe_logical.specs.Answers.{Row}
+use Rattle.aqe_logical.specs.Groups.{row_of}
+use Rattle.aqe_operators.specs.Lent.{lent_rows}
+use Rattle.aqe_places.specs.Places.{by_hash, exchanged}
+use Rattle.aqe_physical.specs.declared.target.Target.{Target}
+use Rattle.aqe_physical.specs.declared.target.Target.TheVariants.{Hash}
+use Rattle.aqe_physical.specs.declared.target.StageKind.{StageKind}
+use Rattle.aqe_physical.specs.declared.target.StageKind.TheVariants as kind
+use Rattle.aqe_stages.specs.Cells.{numbers}
+use Rattle.aqe_stages.specs.Runnable.{NarrowKeys}
+use Rattle.aqe_task.specs.declared.part_rows.PartRows.{PartRows}
+use Rattle.aqe_task.specs.declared.part_rows.PartRows.TheVariants.{Lent, Owned}
+
+abbrev pub rows_in : PartRows → List Row
+rows_in (Lent pieces) = lent_rows pieces.items
+rows_in (Owned rows) = rows
+
+-- the outputs of the maps from one up to another are kept
+abbrev pub AreKept : AllKept → ℕ → ℕ → ℕ → Type 0
+AreKept kept stage m0 m1 = (m : ℕ) → m0 ≤ m → m < m1 → IsSome (output_at kept stage m)
+
+-- the cell that is kept of a map and reducer; those of a reducer from one map up to another; those of a rectangle
+abbrev pub kept_cell : AllKept → ℕ → ℕ → ℕ → List Row
+kept_cell kept stage m r = cell_of (unwrap_or (output_at kept stage m) []) r
+
+abbrev pub kept_column : AllKept → ℕ → ℕ → ℕ → ℕ → List Row
+kept_column kept stage m0 m1 r = flat_map (λ m. kept_cell kept stage m r) (numbers m0 m1)
+
+abbrev pub kept_rows : AllKept → ℕ → Rect → List Row
+kept_rows kept stage rect = flat_map (kept_column kept stage rect.m0 rect.m1) (numbers rect.r0 rect.r1)
+
+-- what the keys of a target, and of a kind of stage, ask of the rows of a part
+abbrev pub CanSend : Target → List Row → Type 0
+CanSend (Hash keys n) rows = (0 < n) × NarrowKeys (row_of keys) rows
+CanSend target rows = Unit {0}
+
+abbrev pub CanKeepRows : StageKind → List Row → Type 0
+CanKeepRows (kind.Shuffle target) rows = CanSend target rows
+CanKeepRows other rows = Unit {0}
+
+-- the cells of rows under a target that is no range, and under a kind that is no sample
+abbrev pub sent_rows : Target → List Row → List (List Row)
+sent_rows (Hash keys n) rows = exchanged (by_hash n keys) n rows
+sent_rows target rows = rows ∷ []
+
+abbrev pub kept_cells : StageKind → List Row → List (List Row)
+kept_cells (kind.Shuffle target) rows = sent_rows target rows
+kept_cells other rows = rows ∷ []

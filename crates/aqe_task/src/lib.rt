@@ -1,0 +1,13 @@
+//! One task: the cells of one part of a stage's body.
+#![tactic(auto)]
+
+mod keeping;
+mod part;
+mod part_rows;
+mod reading;
+mod runner;
+mod steps;
+mod task;
+
+pub use runner::{RanTasks, Runner, TaskRunner};
+pub use task::run_task;

@@ -1,0 +1,96 @@
+//! The steps that make rows of the rows of a part.
+
+ghost use Rattle.std.specs.Prelude.{◌≡◌, ◌+◌, map, filter, length, nat_le, IfOk};
+ghost use Rattle.aqe_expr.specs.Meaning.{holds};
+ghost use Rattle.aqe_logical.specs.Groups.{row_of, group_rows, finish_rows};
+ghost use Rattle.aqe_logical.specs.WellFormed.{HaveWidth};
+ghost use Rattle.aqe_stages.specs.Runnable.{Narrow};
+ghost use Rattle.aqe_values.specs.Bounds.{row_limit};
+ghost use Rattle.aqe_task.specs.Pieces.{rows_in};
+
+use crate::part_rows::PartRows;
+use aqe_base::Memory;
+use aqe_expr::Expr;
+use aqe_logical::{AggCalls, Exprs};
+use aqe_operators::{
+    filter_lent, filter_rows, final_lent, final_rows, partial_lent, partial_rows, project_lent,
+    project_rows,
+};
+use aqe_values::Rows;
+use std::alloc::Global;
+
+/// The most values of a row.
+pub(crate) const ROW_LIMIT: usize = 1024;
+
+/// The rows of which the condition holds.
+pub(crate) fn filtered(alloc: Global, cond: &Expr, rows: PartRows<'_>) -> Result<Rows, Memory>
+    ensures { IfOk result (λ kept. kept ≡ filter (holds cond.now) (rows_in rows.entry)) }
+{
+    match rows {
+        PartRows::Lent(pieces) => filter_lent(alloc, cond, pieces.as_slice()),
+        PartRows::Owned(rows) => filter_rows(alloc, cond, rows),
+    }
+}
+
+/// For each row the values of the items over it.
+pub(crate) fn projected(alloc: Global, items: &Exprs, rows: PartRows<'_>) -> Result<Rows, Memory>
+    requires { Narrow (map (row_of items.now) (rows_in rows)) }
+    ensures { IfOk result (λ made. made ≡ map (row_of items.now) (rows_in rows.entry)) }
+{
+    // There is no row that could have so many values.
+    if items.len() > ROW_LIMIT {
+        return Ok(Rows::new(alloc));
+    }
+    match rows {
+        PartRows::Lent(pieces) => project_lent(alloc, items, pieces.as_slice()),
+        PartRows::Owned(rows) => project_rows(alloc, items, &rows),
+    }
+}
+
+/// Whether a row has room for a key and the calls.
+fn has_room(keys: usize, calls: &AggCalls) -> bool
+    ensures { result ≡ nat_le (keys + length calls.now) row_limit }
+{
+    keys <= ROW_LIMIT && calls.len() <= ROW_LIMIT - keys
+}
+
+/// The partial rows of the groups.
+pub(crate) fn grouped(
+    alloc: Global,
+    keys: &Exprs,
+    calls: &AggCalls,
+    rows: PartRows<'_>,
+) -> Result<Rows, Memory>
+    requires { Narrow (group_rows (length keys.now) (row_of keys.now) calls.now (rows_in rows)) }
+    ensures { IfOk result (λ made. made ≡ group_rows (length keys.now) (row_of keys.now) calls.now (rows_in rows.entry)) }
+{
+    // There is no group whose row could have so many values.
+    if !has_room(keys.len(), calls) {
+        return Ok(Rows::new(alloc));
+    }
+    match rows {
+        PartRows::Lent(pieces) => partial_lent(alloc, keys, calls, pieces.as_slice()),
+        PartRows::Owned(rows) => partial_rows(alloc, keys, calls, &rows),
+    }
+}
+
+/// The groups of partial rows.
+pub(crate) fn finished(
+    alloc: Global,
+    keys: u32,
+    calls: &AggCalls,
+    rows: PartRows<'_>,
+) -> Result<Rows, Memory>
+    requires width { HaveWidth (keys + length calls.now) (rows_in rows) }
+    requires narrow { Narrow (rows_in rows) × Narrow (finish_rows keys calls.now (rows_in rows)) }
+    ensures { IfOk result (λ made. made ≡ finish_rows keys calls.now (rows_in rows.entry)) }
+{
+    // There is no partial row that could have so many values.
+    if !has_room(keys as usize, calls) {
+        return Ok(Rows::new(alloc));
+    }
+    match rows {
+        PartRows::Lent(pieces) => final_lent(alloc, keys, calls, pieces.as_slice()),
+        PartRows::Owned(rows) => final_rows(alloc, keys, calls, &rows),
+    }
+}
