@@ -1,0 +1,71 @@
+-- Bounds are few, and in order.
+use Rattle.std.proofs.Common.{◌≡◌, ℕ, zero, suc, ◌+◌, ◌*◌, ◌-◌, ◌/◌, ◌<◌, ◌≤◌, ◌==◌, Bool, true, false, List, [], ◌∷◌, map, length, get_or, refl, ap, sym, ◌∙◌, subst, arith}
+use Rattle.std.specs.Prelude.{filter, All, slice_index_or}
+use Rattle.std.specs.List.{range_with_len}
+use Rattle.std.specs.List.Sorted.{IsSortedBy}
+use Rattle.std.proofs.Math.Nat.{div-lt_iff_lt-mul, le-div_iff_mul-le, div-mul-le_self, mul-lt-mul_of_pos_right, mul-le-mul_right, mul_comm}
+use Rattle.std.proofs.lemmas.List.Elements.{All-nil, All-cons, filter_passes}
+use Rattle.std.proofs.lemmas.List.FromFn.{length-map-range_with_len}
+use Rattle.aqe_values.specs.KeyOrder.{InOrder}
+use Rattle.aqe_values.proofs.Sortedness.{in_order-sorted}
+use Rattle.std.proofs.lemmas.List.Sorted.{sorted_far}
+use Rattle.aqe_places.proofs.Sorted.{order}
+use Rattle.aqe_places.proofs.OneOrder.{weak}
+use Rattle.aqe_logical.specs.Answers.{Row}
+use Rattle.aqe_places.specs.Places.{single, exchanged}
+use Rattle.aqe_places.specs.Sorting.{stable_sort}
+use Rattle.aqe_places.specs.Samples.{bounds, bounds_of}
+use Rattle.aqe_places.specs.Laws.{IsOrder, OnePartHasTheRows, BoundsAreFewer, BoundsAreInOrder}
+
+all_rows : (rows : List Row) → filter (λ row. single row == 0) rows ≡ rows
+all_rows [] = refl
+all_rows (x ∷ xs) = ap (λ zs. x ∷ zs) (all_rows xs)
+
+pub one_part : OnePartHasTheRows
+one_part rows = ap (λ part. part ∷ []) (all_rows rows)
+
+few : (n : ℕ) (samples : List Row) → 1 ≤ n → length (bounds_of n samples) < n
+few n [] le = omega (arith, le)
+few n (sample ∷ samples) le =
+    let so_many = length-map-range_with_len (λ i. slice_index_or (sample ∷ samples) (i * length (sample ∷ samples) / n) []) 1 (n - 1) in
+    omega (arith, le, so_many)
+
+pub fewer : BoundsAreFewer
+fewer less n samples le = few n (stable_sort less samples) le
+
+-- numbers that do not fall read from a list in order rows that are in order
+abbrev read : List Row → (ℕ → ℕ) → ℕ → Row
+read rows at i = slice_index_or rows (at i) []
+
+module _ (less : Row → Row → Bool) (o : IsOrder less) (rows : List Row) (h : InOrder less rows) (at : ℕ → ℕ) (up : (i j : ℕ) → i ≤ j → at i ≤ at j) where
+  below : (i a n : ℕ) → i ≤ a → ((j : ℕ) → j < a + n → at j < length rows) → All (λ y. less y (read rows at i) ≡ false) (map (read rows at) (range_with_len a n))
+  below i a zero le inside = All-nil (λ y. less y (read rows at i) ≡ false)
+  below i a (suc n) le inside = All-cons (λ y. less y (read rows at i) ≡ false) (read rows at a) (map (read rows at) (range_with_len (a + 1) n))
+      (sorted_far less (weak less o) rows (in_order-sorted less rows h) (at i) (at a) [] (up i a le) (inside a (omega arith)))
+      (below i (a + 1) n (omega (arith, le)) (λ j lt. inside j (omega (arith, lt))))
+
+  in_order_from : (a n : ℕ) → ((j : ℕ) → j < a + n → at j < length rows) → InOrder less (map (read rows at) (range_with_len a n))
+  in_order_from a zero inside = tt
+  in_order_from a (suc n) inside = (below a (a + 1) n (omega arith) (λ j lt. inside j (omega (arith, lt))), in_order_from (a + 1) n (λ j lt. inside j (omega (arith, lt))))
+
+-- place i * k / n, for i below n, is below k; and such places do not fall
+between : (n k i : ℕ) → i < n → 1 ≤ n → 1 ≤ k → i * k / n < k
+between n k i lt le some = (div-lt_iff_lt-mul le).1 (subst (λ (m : ℕ). i * k < m) (mul_comm n k) (mul-lt-mul_of_pos_right lt some))
+
+risen : (n k i j : ℕ) → 1 ≤ n → i ≤ j → i * k / n ≤ j * k / n
+risen n k i j le up =
+    let under = div-mul-le_self (i * k) n in
+    let over = mul-le-mul_right k up in
+    (le-div_iff_mul-le le).1 (omega (arith, under, over))
+
+bounds_in_order : (less : Row → Row → Bool) → IsOrder less → (n : ℕ) (rows : List Row) → InOrder less rows → InOrder less (bounds_of n rows)
+bounds_in_order less o n [] h = tt
+bounds_in_order less o zero (row ∷ rows) h = tt
+bounds_in_order less o (suc n) (row ∷ rows) h =
+    let k = suc (length rows) in
+    in_order_from less o (row ∷ rows) h (λ i. i * k / suc n) (λ i j. risen (suc n) k i j (omega arith)) 1 (suc n - 1) (λ j lt. between (suc n) k j (omega (arith, lt)) (omega arith) (omega arith))
+
+pub in_order : BoundsAreInOrder
+in_order less o n samples =
+    let h = bounds_in_order less o n (stable_sort less samples) (order less o samples) in
+    (h, in_order-sorted less (bounds less n samples) h)
