@@ -1,10 +1,9 @@
 -- Bounds are few, and in order.
-use Rattle.std.proofs.Common.{◌≡◌, ℕ, zero, suc, ◌+◌, ◌*◌, ◌-◌, ◌/◌, ◌<◌, ◌≤◌, ◌==◌, Bool, true, false, List, [], ◌∷◌, map, length, get_or, refl, ap, sym, ◌∙◌, subst, arith}
+use Rattle.std.proofs.Common.{◌≡◌, ℕ, zero, suc, ◌+◌, ◌*◌, ◌-◌, ◌/◌, ◌<◌, ◌≤◌, ◌==◌, Bool, false, List, [], ◌∷◌, map, length, refl, ap, subst, arith}
 use Rattle.std.specs.Prelude.{filter, All, slice_index_or}
 use Rattle.std.specs.List.{range_with_len}
-use Rattle.std.specs.List.Sorted.{IsSortedBy}
 use Rattle.std.proofs.Math.Nat.{div-lt_iff_lt-mul, le-div_iff_mul-le, div-mul-le_self, mul-lt-mul_of_pos_right, mul-le-mul_right, mul_comm}
-use Rattle.std.proofs.lemmas.List.Elements.{All-nil, All-cons, filter_passes}
+use Rattle.std.proofs.lemmas.List.Elements.{All-nil, All-cons}
 use Rattle.std.proofs.lemmas.List.FromFn.{length-map-range_with_len}
 use Rattle.aqe_values.specs.KeyOrder.{InOrder}
 use Rattle.aqe_values.proofs.Sortedness.{in_order-sorted}
@@ -12,7 +11,7 @@ use Rattle.std.proofs.lemmas.List.Sorted.{sorted_far}
 use Rattle.aqe_places.proofs.Sorted.{order}
 use Rattle.aqe_places.proofs.OneOrder.{weak}
 use Rattle.aqe_logical.specs.Answers.{Row}
-use Rattle.aqe_places.specs.Places.{single, exchanged}
+use Rattle.aqe_places.specs.Places.{single}
 use Rattle.aqe_places.specs.Sorting.{stable_sort}
 use Rattle.aqe_places.specs.Samples.{bounds, bounds_of}
 use Rattle.aqe_places.specs.Laws.{IsOrder, OnePartHasTheRows, BoundsAreFewer, BoundsAreInOrder}

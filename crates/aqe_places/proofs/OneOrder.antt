@@ -1,8 +1,8 @@
 -- A list in order is told by its rows that tie.
-use Rattle.std.proofs.Common.{◌≡◌, Bool, true, false, cond, List, [], ◌∷◌, not, ◌&&◌, refl, ap, sym, ◌∙◌, subst, arith}
+use Rattle.std.proofs.Common.{◌≡◌, Bool, true, false, cond, List, [], ◌∷◌, not, ◌&&◌, refl, ap, sym, ◌∙◌, subst}
 use Rattle.std.specs.Prelude.{filter, All}
 use Rattle.std.specs.Cmp.{IsStrictWeakOrder}
-use Rattle.std.specs.List.Sorted.{IsSortedBy, IsStableBy, ties}
+use Rattle.std.specs.List.Sorted.{ties}
 use Rattle.std.proofs.lemmas.List.Elements.{All-head, All-filter}
 use Rattle.aqe_values.specs.KeyOrder.{InOrder}
 use Rattle.aqe_values.proofs.Sortedness.{sorted-in_order}
@@ -80,19 +80,20 @@ one_order less o (x ∷ xs) (y ∷ ys) h k alike = by (ties less x y) refl (one_
         let y_not : less y x ≡ false = first_of (λ z. less z x ≡ false) (ties less y) y (filter (ties less y) ys) xs h.0 (at_y ∙ filter_else (ties less y) x xs (turned_ties less y x ∙ e)) in
         absurd (let no = not_both (less x y) (less y x) x_not y_not e in cc (no))
 
--- rows that tie with a row tie with one another
-pub tied_rows : (less : Row → Row → Bool) → IsOrder less → (x y z : Row) → ties less x y ≡ true → ties less x z ≡ true → less y z ≡ false
-tied_rows less o x y z a b = o.goes_on y x z (right (less x y) (less y x) a) (left (less x z) (less z x) b)
-  where
-    left : (a b : Bool) → (not a && not b) ≡ true → a ≡ false
-    left true b e = sym e
-    left false b e = refl
+-- of two rows that tie neither comes before the other
+pub tie_left : (a b : Bool) → (not a && not b) ≡ true → a ≡ false
+tie_left true b e = sym e
+tie_left false b e = refl
 
-    right : (a b : Bool) → (not a && not b) ≡ true → b ≡ false
-    right true true e = sym e
-    right true false e = refl
-    right false true e = sym e
-    right false false e = refl
+pub tie_right : (a b : Bool) → (not a && not b) ≡ true → b ≡ false
+tie_right true true e = sym e
+tie_right true false e = refl
+tie_right false true e = sym e
+tie_right false false e = refl
+
+-- rows that tie with a row tie with one another
+tied_rows : (less : Row → Row → Bool) → IsOrder less → (x y z : Row) → ties less x y ≡ true → ties less x z ≡ true → less y z ≡ false
+tied_rows less o x y z a b = o.goes_on y x z (tie_right (less x y) (less y x) a) (tie_left (less x z) (less z x) b)
 
 pub sort_ties : (less : Row → Row → Bool) → IsOrder less → (x : Row) (rows : List Row) → filter (ties less x) (stable_sort less rows) ≡ filter (ties less x) rows
 sort_ties less o x rows = stable less (ties less x) rows (λ y z. tied_rows less o x y z)

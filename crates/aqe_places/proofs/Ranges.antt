@@ -1,18 +1,19 @@
 -- Parts by range stand in order end to end, and sorted each by itself they are the whole sorted.
-use Rattle.std.proofs.Common.{◌≡◌, ℕ, zero, suc, ◌+◌, ◌<◌, ◌≤◌, ◌==◌, Bool, true, false, cond, List, [], ◌∷◌, ◌++◌, map, length, not, ◌&&◌, refl, ap, sym, ◌∙◌, arith}
+use Rattle.std.proofs.Common.{◌≡◌, ℕ, zero, suc, ◌+◌, ◌<◌, ◌≤◌, ◌==◌, Bool, true, false, cond, List, [], ◌∷◌, ◌++◌, map, length, refl, ap, sym, ◌∙◌, arith}
 use Rattle.std.specs.Prelude.{filter, flat_map, All}
 use Rattle.std.specs.List.{range_with_len}
 use Rattle.std.specs.List.Sorted.{ties}
+use Rattle.std.proofs.lemmas.List.{append-nil}
 use Rattle.std.proofs.lemmas.Bool.Decides.{nat_tests}
-use Rattle.std.proofs.lemmas.List.Elements.{All-nil, All-cons, All-head, All-tail, All-append, All-weaker, filter-append}
+use Rattle.std.proofs.lemmas.List.Elements.{All-nil, All-cons, All-head, All-tail, All-append, All-weaker, filter-append, filter_agree}
 use Rattle.aqe_values.specs.KeyOrder.{InOrder}
 use Rattle.aqe_logical.specs.Answers.{Row}
 use Rattle.aqe_places.specs.Places.{by_range, part_of, exchanged}
-use Rattle.aqe_places.specs.Sorting.{put_in, stable_sort}
+use Rattle.aqe_places.specs.Sorting.{stable_sort}
 use Rattle.aqe_places.specs.Laws.{IsOrder, before_by, PartsInOrder, RangePartsAreInOrder, SortedPartsAreSorted, SortedRangesAreTheSort}
 use Rattle.aqe_places.proofs.Exchanged.{are_parts, all_at}
 use Rattle.aqe_places.proofs.Sorted.{order, all_put}
-use Rattle.aqe_places.proofs.OneOrder.{ordered_is, sort_ties}
+use Rattle.aqe_places.proofs.OneOrder.{ordered_is, sort_ties, tie_left, tie_right}
 
 -- rows under their keys are in order as the keys are
 keyed : (less : Row → Row → Bool) (key : Row → Row) → IsOrder less → IsOrder (before_by less key)
@@ -112,3 +113,78 @@ module _ (less : Row → Row → Bool) (o : IsOrder less) where
 
 pub ranges_in_order : RangePartsAreInOrder
 ranges_in_order less o bounds key n rows = parts_in_order less o bounds key rows 0 n
+
+-- rows that tie have as many bounds before them
+same_place : (less : Row → Row → Bool) → IsOrder less → (bounds : List Row) (key : Row → Row) (x y : Row) → ties (before_by less key) x y ≡ true → by_range less bounds key y ≡ by_range less bounds key x
+same_place less o bounds key x y tie =
+    ap length (filter_agree (λ b. less b (key y)) (λ b. less b (key x)) (λ b. one (less b (key y)) (less b (key x)) (over b) (under b)) bounds)
+  where
+    over : (b : Row) → less b (key x) ≡ false → less b (key y) ≡ false
+    over b h = o.goes_on b (key x) (key y) h (tie_left (less (key x) (key y)) (less (key y) (key x)) tie)
+
+    under : (b : Row) → less b (key y) ≡ false → less b (key x) ≡ false
+    under b h = o.goes_on b (key y) (key x) h (tie_right (less (key x) (key y)) (less (key y) (key x)) tie)
+
+    one : (c d : Bool) → (d ≡ false → c ≡ false) → (c ≡ false → d ≡ false) → c ≡ d
+    one true true f g = refl
+    one true false f g = f refl
+    one false true f g = sym (g refl)
+    one false false f g = refl
+
+-- where the rows that pass a test have one place, they stand in the part of that place
+module _ (place : Row → ℕ) (test : Row → Bool) (p : ℕ) (at : (y : Row) → test y ≡ true → place y ≡ p) where
+  in_part : (rows : List Row) → filter test (part_of place rows p) ≡ filter test rows
+  in_part [] = refl
+  in_part (x ∷ xs) = by (place x == p) refl (test x) refl (in_part xs)
+    where
+      by : (c : Bool) → (place x == p) ≡ c → (d : Bool) → test x ≡ d → filter test (part_of place xs p) ≡ filter test xs
+          → filter test (cond c (x ∷ part_of place xs p) (part_of place xs p)) ≡ cond d (x ∷ filter test xs) (filter test xs)
+      by true e true f rest = ap (λ b. cond b (x ∷ filter test (part_of place xs p)) (filter test (part_of place xs p))) f ∙ ap (λ zs. x ∷ zs) rest
+      by true e false f rest = ap (λ b. cond b (x ∷ filter test (part_of place xs p)) (filter test (part_of place xs p))) f ∙ rest
+      by false e true f rest = absurd (let here = at x f in let no : (place x == p) ≡ true = grind (arith, nat_tests, here) in let up : true ≡ false = sym no ∙ e in cc (up))
+      by false e false f rest = rest
+
+  in_no_other : (rows : List Row) (r : ℕ) → (p == r) ≡ false → filter test (part_of place rows r) ≡ []
+  in_no_other [] r other = refl
+  in_no_other (x ∷ xs) r other = by (place x == r) refl (test x) refl (in_no_other xs r other)
+    where
+      by : (c : Bool) → (place x == r) ≡ c → (d : Bool) → test x ≡ d → filter test (part_of place xs r) ≡ []
+          → filter test (cond c (x ∷ part_of place xs r) (part_of place xs r)) ≡ []
+      by true e true f rest = absurd (let here : p ≡ place x = sym (at x f) in let up : true ≡ false = sym e ∙ (ap (λ q. q == r) (sym here) ∙ other) in cc (up))
+      by true e false f rest = ap (λ b. cond b (x ∷ filter test (part_of place xs r)) (filter test (part_of place xs r))) f ∙ rest
+      by false e d f rest = rest
+
+  parts_else : (rows : List Row) (a n : ℕ) → p < a → filter test (flat_map (λ q. q) (map (part_of place rows) (range_with_len a n))) ≡ []
+  parts_else rows a zero lt = refl
+  parts_else rows a (suc n) lt =
+      let other : (p == a) ≡ false = grind (arith, nat_tests, lt) in
+      filter-append test (part_of place rows a) (flat_map (λ q. q) (map (part_of place rows) (range_with_len (a + 1) n)))
+      ∙ (ap (λ zs. zs ++ filter test (flat_map (λ q. q) (map (part_of place rows) (range_with_len (a + 1) n)))) (in_no_other rows a other)
+      ∙ parts_else rows (a + 1) n (omega (arith, lt)))
+
+  parts_with : (rows : List Row) (a n : ℕ) → a ≤ p → p < a + n → filter test (flat_map (λ q. q) (map (part_of place rows) (range_with_len a n))) ≡ filter test rows
+  parts_with rows a zero le lt = absurd (let no : ⊥ = omega (arith, le, lt) in no)
+  parts_with rows a (suc n) le lt = filter-append test (part_of place rows a) rest ∙ by (p == a) refl (λ other. parts_with rows (a + 1) n (omega (arith, other)) (omega (arith, lt)))
+    where
+      rest : List Row
+      rest = flat_map (λ q. q) (map (part_of place rows) (range_with_len (a + 1) n))
+
+      by : (c : Bool) → (p == a) ≡ c → (a < p → filter test rest ≡ filter test rows) → filter test (part_of place rows a) ++ filter test rest ≡ filter test rows
+      by true e later =
+          let same : p ≡ a = grind (arith, nat_tests, e) in
+          ap (λ zs. filter test (part_of place rows a) ++ zs) (parts_else rows (a + 1) n (omega (arith, same)))
+          ∙ (append-nil (filter test (part_of place rows a)) ∙ (ap (λ r. filter test (part_of place rows r)) (sym same) ∙ in_part rows))
+      by false e later =
+          let other : a < p = grind (arith, nat_tests, e, le) in
+          ap (λ zs. zs ++ filter test rest) (in_no_other rows a e) ∙ later other
+
+pub ranges_are : SortedRangesAreTheSort
+ranges_are less o bounds key n rows few =
+    let under = before_by less key in
+    let place = by_range less bounds key in
+    let parts = exchanged place n rows in
+    let ko = keyed less key o in
+    sorted_parts_are under ko parts (ranges_in_order less o bounds key n rows)
+    ∙ ordered_is under ko rows (stable_sort under (flat_map (λ p. p) parts)) (order under ko (flat_map (λ p. p) parts))
+    (λ x. sort_ties under ko x (flat_map (λ p. p) parts)
+    ∙ parts_with place (ties under x) (place x) (λ y tie. same_place less o bounds key x y tie) rows 0 n (omega arith) (omega (arith, are_parts less bounds key n x few)))

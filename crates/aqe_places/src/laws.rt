@@ -1,6 +1,6 @@
 //! Laws of the definitions, each the contract of a function that does nothing.
 
-ghost use Rattle.aqe_places.specs.Laws.{BoundsAreFewer, BoundsAreInOrder, ExchangesKeepTheRows, ExchangesPlaceTheRows, HashPlacesAreParts, OnePartHasTheRows, RangePartsAreInOrder, RangePlacesAreParts, SortKeysDecideInTurn, SortKeysOrder, SortedAndStableIsTheSort, SortedPartsAreSorted, SortsAreStable, SortsKeepTheRows, SortsOrderTheRows};
+ghost use Rattle.aqe_places.specs.Laws.{BoundsAreFewer, BoundsAreInOrder, ExchangesKeepTheRows, ExchangesPlaceTheRows, HashPlacesAreParts, OnePartHasTheRows, RangePartsAreInOrder, RangePlacesAreParts, SortKeysDecideInTurn, SortKeysOrder, SortedAndStableIsTheSort, SortedPartsAreSorted, SortedRangesAreTheSort, SortsAreStable, SortsKeepTheRows, SortsOrderTheRows};
 
 /// The parts of an exchange have the rows that came in.
 pub fn exchanges_keep_the_rows()
@@ -75,4 +75,9 @@ pub fn range_parts_are_in_order()
 /// Parts that stand in order, each sorted and put end to end, are their rows sorted.
 pub fn sorted_parts_are_sorted()
     ensures { SortedPartsAreSorted }
+{}
+
+/// The parts of an exchange by range, each sorted and put end to end, are the rows that came in, sorted.
+pub fn sorted_ranges_are_the_sort()
+    ensures { SortedRangesAreTheSort }
 {}
