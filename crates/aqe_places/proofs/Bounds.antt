@@ -1,20 +1,20 @@
 -- Bounds are few, and in order.
 use Rattle.std.proofs.Common.{◌≡◌, ℕ, zero, suc, ◌+◌, ◌*◌, ◌-◌, ◌/◌, ◌<◌, ◌≤◌, ◌==◌, Bool, false, List, [], ◌∷◌, map, length, refl, ap, subst, arith}
-use Rattle.std.specs.Prelude.{filter, All, slice_index_or}
+use Rattle.std.specs.Prelude.{min, Contains, filter, All, slice_index_or}
 use Rattle.std.specs.List.{range_with_len}
 use Rattle.std.proofs.Math.Nat.{div-lt_iff_lt-mul, le-div_iff_mul-le, div-mul-le_self, mul-lt-mul_of_pos_right, mul-le-mul_right, mul_comm}
-use Rattle.std.proofs.lemmas.List.Elements.{All-nil, All-cons}
+use Rattle.std.proofs.lemmas.List.Elements.{Contains-get_or, All-weaker, All-nil, All-cons}
 use Rattle.std.proofs.lemmas.List.FromFn.{length-map-range_with_len}
 use Rattle.aqe_values.specs.KeyOrder.{InOrder}
 use Rattle.aqe_values.proofs.Sortedness.{in_order-sorted}
-use Rattle.std.proofs.lemmas.List.Sorted.{sorted_far}
-use Rattle.aqe_places.proofs.Sorted.{order}
+use Rattle.std.proofs.lemmas.List.Sorted.{sorted_far, Contains-permutation, IsPermutation-sym}
+use Rattle.aqe_places.proofs.Sorted.{order, keep}
 use Rattle.aqe_places.proofs.OneOrder.{weak}
 use Rattle.aqe_logical.specs.Answers.{Row}
 use Rattle.aqe_places.specs.Places.{single}
 use Rattle.aqe_places.specs.Sorting.{stable_sort}
-use Rattle.aqe_places.specs.Samples.{bounds, bounds_of}
-use Rattle.aqe_places.specs.Laws.{IsOrder, OnePartHasTheRows, BoundsAreFewer, BoundsAreInOrder}
+use Rattle.aqe_places.specs.Samples.{sample_size, evenly, bounds, bounds_of}
+use Rattle.aqe_places.specs.Laws.{IsOrder, OnePartHasTheRows, BoundsAreFewer, BoundsAreInOrder, SamplesAreKeys, BoundsAreSamples}
 
 all_rows : (rows : List Row) → filter (λ row. single row == 0) rows ≡ rows
 all_rows [] = refl
@@ -68,3 +68,31 @@ pub in_order : BoundsAreInOrder
 in_order less o n samples =
     let h = bounds_in_order less o n (stable_sort less samples) (order less o samples) in
     (h, in_order-sorted less (bounds less n samples) h)
+
+-- what is read within a list stands in it
+within : (rows : List Row) (at : ℕ → ℕ) (a n : ℕ) → ((j : ℕ) → j < a + n → at j < length rows) → All (λ row. Contains rows row) (map (read rows at) (range_with_len a n))
+within rows at a zero inside = All-nil (λ row. Contains rows row)
+within rows at a (suc n) inside = All-cons (λ row. Contains rows row) (read rows at a) (map (read rows at) (range_with_len (a + 1) n))
+    (Contains-get_or rows (at a) [] (inside a (omega arith))) (within rows at (a + 1) n (λ j lt. inside j (omega (arith, lt))))
+
+evenly_within : (keys : List Row) (s : ℕ) → s ≤ length keys → All (λ key. Contains keys key) (evenly s keys)
+evenly_within keys s le = within keys (λ i. i * length keys / s) 0 s (λ j lt. between s (length keys) j (omega (arith, lt)) (omega (arith, lt)) (omega (arith, lt, le)))
+
+pub are_keys : SamplesAreKeys
+are_keys keys = (
+  length-map-range_with_len (λ i. slice_index_or keys (i * length keys / min sample_size (length keys)) []) 0 (min sample_size (length keys)),
+  evenly_within keys (min sample_size (length keys)) (omega arith),
+)
+
+bounds_within : (n : ℕ) (rows : List Row) → All (λ bound. Contains rows bound) (bounds_of n rows)
+bounds_within n [] = All-nil (λ bound. Contains {X = Row} [] bound)
+bounds_within zero (row ∷ rows) = All-nil (λ bound. Contains (row ∷ rows) bound)
+bounds_within (suc n) (row ∷ rows) =
+    let k = suc (length rows) in
+    within (row ∷ rows) (λ i. i * k / suc n) 1 (suc n - 1) (λ j lt. between (suc n) k j (omega (arith, lt)) (omega arith) (omega arith))
+
+pub are_samples : BoundsAreSamples
+are_samples less n samples =
+    let sorted = stable_sort less samples in
+    All-weaker (λ bound. Contains sorted bound) (λ bound. Contains samples bound)
+    (λ bound. Contains-permutation sorted samples bound (IsPermutation-sym samples sorted (keep less samples))) (bounds_of n sorted) (bounds_within n sorted)

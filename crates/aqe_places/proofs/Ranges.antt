@@ -10,7 +10,9 @@ use Rattle.aqe_values.specs.KeyOrder.{InOrder}
 use Rattle.aqe_logical.specs.Answers.{Row}
 use Rattle.aqe_places.specs.Places.{by_range, part_of, exchanged}
 use Rattle.aqe_places.specs.Sorting.{stable_sort}
-use Rattle.aqe_places.specs.Laws.{IsOrder, before_by, PartsInOrder, RangePartsAreInOrder, SortedPartsAreSorted, SortedRangesAreTheSort}
+use Rattle.aqe_places.specs.Laws.{IsOrder, before_by, PartsInOrder, RangePartsAreInOrder, SortedPartsAreSorted, SortedRangesAreTheSort, SampledRangesAreTheSort}
+use Rattle.aqe_places.specs.Samples.{bounds}
+use Rattle.aqe_places.proofs.Bounds.{fewer}
 use Rattle.aqe_places.proofs.Exchanged.{are_parts, all_at}
 use Rattle.aqe_places.proofs.Sorted.{order, all_put}
 use Rattle.aqe_places.proofs.OneOrder.{ordered_is, sort_ties, tie_left, tie_right}
@@ -188,3 +190,6 @@ ranges_are less o bounds key n rows few =
     ∙ ordered_is under ko rows (stable_sort under (flat_map (λ p. p) parts)) (order under ko (flat_map (λ p. p) parts))
     (λ x. sort_ties under ko x (flat_map (λ p. p) parts)
     ∙ parts_with place (ties under x) (place x) (λ y tie. same_place less o bounds key x y tie) rows 0 n (omega arith) (omega (arith, are_parts less bounds key n x few)))
+
+pub sampled_ranges_are : SampledRangesAreTheSort
+sampled_ranges_are less o samples key n rows le = ranges_are less o (bounds less n samples) key n rows (fewer less n samples le)

@@ -1,5 +1,5 @@
 -- The laws of exchanges, sorts and ranges.
-use Rattle.std.specs.Prelude.{◌≡◌, ℕ, ◌<◌, ◌≤◌, ◌+◌, Bool, true, false, List, [], ◌∷◌, filter, flat_map, length, All, IsPermutation}
+use Rattle.std.specs.Prelude.{◌≡◌, ℕ, ◌<◌, ◌≤◌, ◌+◌, Bool, true, false, List, [], ◌∷◌, filter, flat_map, length, min, All, Contains, IsPermutation}
 use Rattle.aqe_expr.specs.declared.expr.Expr.{Expr}
 use Rattle.aqe_logical.specs.Answers.{Row}
 use Rattle.std.specs.Ordering.{ordering_then}
@@ -11,7 +11,7 @@ use Rattle.aqe_logical.specs.declared.plan.SortKey.{SortKey}
 use Rattle.aqe_logical.specs.Order.{row_order, before}
 use Rattle.aqe_places.specs.Places.{by_hash, by_range, single, exchanged}
 use Rattle.aqe_places.specs.Sorting.{stable_sort}
-use Rattle.aqe_places.specs.Samples.{bounds}
+use Rattle.aqe_places.specs.Samples.{sample_size, sample, bounds}
 
 -- where each row's place is that of a part, the parts have the rows that came in
 abbrev pub ExchangesKeepTheRows : Type 0
@@ -69,6 +69,14 @@ SortKeysDecideInTurn = (key : SortKey) (keys : List SortKey) (x y : Row) →
 abbrev pub SortKeysOrder : Type 0
 SortKeysOrder = (keys : List SortKey) → IsOrder (before keys)
 
+-- the samples of a list are keys of it, 20 of them or as many as there are
+abbrev pub SamplesAreKeys : Type 0
+SamplesAreKeys = (keys : List Row) → (length (sample keys) ≡ min sample_size (length keys)) × All (λ key. Contains keys key) (sample keys)
+
+-- bounds are samples
+abbrev pub BoundsAreSamples : Type 0
+BoundsAreSamples = (less : Row → Row → Bool) (n : ℕ) (samples : List Row) → All (λ bound. Contains samples bound) (bounds less n samples)
+
 -- n ranges have fewer bounds than n, whatever the samples
 abbrev pub BoundsAreFewer : Type 0
 BoundsAreFewer = (less : Row → Row → Bool) (n : ℕ) (samples : List Row) → 1 ≤ n → length (bounds less n samples) < n
@@ -107,3 +115,8 @@ SortedPartsAreSorted = (less : Row → Row → Bool) → IsOrder less → (parts
 abbrev pub SortedRangesAreTheSort : Type 0
 SortedRangesAreTheSort = (less : Row → Row → Bool) → IsOrder less → (bounds : List Row) (key : Row → Row) (n : ℕ) (rows : List Row) → length bounds < n →
     flat_map (stable_sort (before_by less key)) (exchanged (by_range less bounds key) n rows) ≡ stable_sort (before_by less key) rows
+
+-- the whole of a sort by range: whatever the samples, the parts by their bounds, each sorted and put end to end, are the rows sorted
+abbrev pub SampledRangesAreTheSort : Type 0
+SampledRangesAreTheSort = (less : Row → Row → Bool) → IsOrder less → (samples : List Row) (key : Row → Row) (n : ℕ) (rows : List Row) → 1 ≤ n →
+    flat_map (stable_sort (before_by less key)) (exchanged (by_range less (bounds less n samples) key) n rows) ≡ stable_sort (before_by less key) rows

@@ -1,6 +1,6 @@
 //! Laws of the definitions, each the contract of a function that does nothing.
 
-ghost use Rattle.aqe_places.specs.Laws.{BoundsAreFewer, BoundsAreInOrder, ExchangesKeepTheRows, ExchangesPlaceTheRows, HashPlacesAreParts, OnePartHasTheRows, RangePartsAreInOrder, RangePlacesAreParts, SortKeysDecideInTurn, SortKeysOrder, SortedAndStableIsTheSort, SortedPartsAreSorted, SortedRangesAreTheSort, SortsAreStable, SortsKeepTheRows, SortsOrderTheRows};
+ghost use Rattle.aqe_places.specs.Laws.{BoundsAreFewer, BoundsAreInOrder, BoundsAreSamples, ExchangesKeepTheRows, ExchangesPlaceTheRows, HashPlacesAreParts, OnePartHasTheRows, RangePartsAreInOrder, RangePlacesAreParts, SampledRangesAreTheSort, SamplesAreKeys, SortKeysDecideInTurn, SortKeysOrder, SortedAndStableIsTheSort, SortedPartsAreSorted, SortedRangesAreTheSort, SortsAreStable, SortsKeepTheRows, SortsOrderTheRows};
 
 /// The parts of an exchange have the rows that came in.
 pub fn exchanges_keep_the_rows()
@@ -80,4 +80,19 @@ pub fn sorted_parts_are_sorted()
 /// The parts of an exchange by range, each sorted and put end to end, are the rows that came in, sorted.
 pub fn sorted_ranges_are_the_sort()
     ensures { SortedRangesAreTheSort }
+{}
+
+/// The samples of a list are keys of it, 20 of them or as many as there are.
+pub fn samples_are_keys()
+    ensures { SamplesAreKeys }
+{}
+
+/// Bounds are samples.
+pub fn bounds_are_samples()
+    ensures { BoundsAreSamples }
+{}
+
+/// The whole of a sort by range, whatever the samples: the parts by their bounds, each sorted and put end to end, are the rows sorted.
+pub fn sampled_ranges_are_the_sort()
+    ensures { SampledRangesAreTheSort }
 {}
