@@ -67,7 +67,7 @@ keep_the_rows place n rows h = permuted rows (flat_map (λ part. part) (exchange
         (total_turned (λ x r. cond (place x == r) (bit (row_eq k x)) 0) rows (range_with_len 0 n) ∙
         (λ i. total (λ x. within_range (place x) (bit (row_eq k x)) 0 n (omega arith) (omega (arith, h x)) i) rows))))
 
-all_at : (place : Row → ℕ) (a : ℕ) (rows : List Row) → All (λ row. place row ≡ a) (part_of place rows a)
+pub all_at : (place : Row → ℕ) (a : ℕ) (rows : List Row) → All (λ row. place row ≡ a) (part_of place rows a)
 all_at place a [] = All-nil (λ row. place row ≡ a)
 all_at place a (x ∷ xs) = by (place x == a) refl (all_at place a xs)
   where

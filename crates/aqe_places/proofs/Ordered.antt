@@ -1,5 +1,5 @@
 -- The order under sort keys, and that it orders.
-use Rattle.std.proofs.Common.{◌≡◌, true, false, refl, ap, sym, ◌∙◌}
+use Rattle.std.proofs.Common.{◌≡◌, List, true, false, refl, ap, sym, ◌∙◌}
 use Rattle.std.specs.Cmp.{IsTotalOrder}
 use Rattle.std.specs.Ordering.{ordering_reverse, is_lt}
 use Rattle.std.specs.declared.cmp.Ordering.{Ordering}
@@ -7,8 +7,10 @@ use Rattle.std.specs.declared.cmp.Ordering.TheVariants.{Less, Equal, Greater}
 use Rattle.aqe_values.specs.KeyOrder.{key_order}
 use Rattle.aqe_values.proofs.TotalOrders.{keys_total}
 use Rattle.aqe_logical.specs.Answers.{Row}
-use Rattle.aqe_logical.specs.Order.{row_order, ways_of, key_of}
-use Rattle.aqe_places.specs.Laws.{SortKeysDecideInTurn, SortKeysOrder}
+use Rattle.aqe_logical.specs.Order.{row_order, ways_of, key_of, before}
+use Rattle.aqe_logical.specs.declared.plan.SortKey.{SortKey}
+use Rattle.aqe_values.specs.declared.sort_way.SortWay.{SortWay}
+use Rattle.aqe_places.specs.Laws.{IsOrder, before_by, SortKeysDecideInTurn, SortKeysOrder}
 
 pub in_turn : SortKeysDecideInTurn
 in_turn key keys x y = refl
@@ -40,3 +42,13 @@ orders keys =
     let trans : (x y z : Row) → row_order keys x y ≡ Less → row_order keys y z ≡ Less → row_order keys x z ≡ Less = λ x y z. total.trans (key x) (key y) (key z) in
     let congr : (x y z : Row) → row_order keys x y ≡ Equal → row_order keys x z ≡ row_order keys y z = λ x y z. total.congr (key x) (key y) (key z) in
     record { one_way = one_way (row_order keys) turned trans congr; goes_on = goes_on (row_order keys) turned trans congr }
+
+-- the order of key rows orders them, as an order of keys for ranges
+pub key_rows_order : (ways : List SortWay) → IsOrder (λ a b. is_lt (key_order ways a b))
+key_rows_order ways =
+    let total : IsTotalOrder (key_order ways) = keys_total ways in
+    record { one_way = one_way (key_order ways) total.antisymm total.trans total.congr; goes_on = goes_on (key_order ways) total.antisymm total.trans total.congr }
+
+-- rows by their key rows are in the order of the sort keys
+pub by_key_rows : (keys : List SortKey) → before_by (λ a b. is_lt (key_order (ways_of keys) a b)) (key_of keys) ≡ before keys
+by_key_rows keys = refl

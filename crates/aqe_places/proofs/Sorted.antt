@@ -24,7 +24,7 @@ pub keep : SortsKeepTheRows
 keep less [] = IsPermutation-refl {X = Row} []
 keep less (x ∷ xs) = IsPermutation-trans (x ∷ xs) (x ∷ stable_sort less xs) (put_in less x (stable_sort less xs)) (IsPermutation-cons x xs (stable_sort less xs) (keep less xs)) (put_keeps less x (stable_sort less xs))
 
-all_put : (less : Row → Row → Bool) (P : Row → Type 0) (x : Row) (ys : List Row) → P x → All P ys → All P (put_in less x ys)
+pub all_put : (less : Row → Row → Bool) (P : Row → Type 0) (x : Row) (ys : List Row) → P x → All P ys → All P (put_in less x ys)
 all_put less P x [] h k = All-cons P x [] h k
 all_put less P x (y ∷ ys) h k = by (less y x) (all_put less P x ys h (All-tail P y ys k))
   where

@@ -1,15 +1,17 @@
 -- The laws of exchanges, sorts and ranges.
-use Rattle.std.specs.Prelude.{◌≡◌, ℕ, ◌<◌, ◌≤◌, ◌+◌, Bool, true, false, List, [], ◌∷◌, filter, flat_map, length, All, IsPermutation}
+use Rattle.std.specs.Prelude.{◌≡◌, ℕ, ◌<◌, ◌≤◌, ◌+◌, Bool, true, false, List, [], ◌∷◌, filter, flat_map, length, min, All, Contains, IsPermutation}
 use Rattle.aqe_expr.specs.declared.expr.Expr.{Expr}
 use Rattle.aqe_logical.specs.Answers.{Row}
 use Rattle.std.specs.Ordering.{ordering_then}
+use Rattle.std.specs.List.Sorted.{IsSortedBy, IsStableBy}
 use Rattle.aqe_values.specs.Order.{way_cmp}
 use Rattle.aqe_values.specs.KeyOrder.{InOrder}
 use Rattle.aqe_expr.specs.Meaning.{val}
 use Rattle.aqe_logical.specs.declared.plan.SortKey.{SortKey}
 use Rattle.aqe_logical.specs.Order.{row_order, before}
-use Rattle.aqe_places.specs.Places.{by_hash, by_range, exchanged}
+use Rattle.aqe_places.specs.Places.{by_hash, by_range, single, exchanged}
 use Rattle.aqe_places.specs.Sorting.{stable_sort}
+use Rattle.aqe_places.specs.Samples.{sample_size, sample, bounds}
 
 -- where each row's place is that of a part, the parts have the rows that came in
 abbrev pub ExchangesKeepTheRows : Type 0
@@ -24,6 +26,10 @@ Placed place a (part ∷ parts) = All (λ row. place row ≡ a) part × Placed p
 
 abbrev pub ExchangesPlaceTheRows : Type 0
 ExchangesPlaceTheRows = (place : Row → ℕ) (n : ℕ) (rows : List Row) → Placed place 0 (exchanged place n rows)
+
+-- an exchange to one part has all rows in it, in the order in which they came
+abbrev pub OnePartHasTheRows : Type 0
+OnePartHasTheRows = (rows : List Row) → exchanged single 1 rows ≡ rows ∷ []
 
 -- each place by hash is that of a part
 abbrev pub HashPlacesAreParts : Type 0
@@ -62,3 +68,55 @@ SortKeysDecideInTurn = (key : SortKey) (keys : List SortKey) (x y : Row) →
 -- the test of a sort by keys orders
 abbrev pub SortKeysOrder : Type 0
 SortKeysOrder = (keys : List SortKey) → IsOrder (before keys)
+
+-- the samples of a list are keys of it, 20 of them or as many as there are
+abbrev pub SamplesAreKeys : Type 0
+SamplesAreKeys = (keys : List Row) → (length (sample keys) ≡ min sample_size (length keys)) × All (λ key. Contains keys key) (sample keys)
+
+-- bounds are samples
+abbrev pub BoundsAreSamples : Type 0
+BoundsAreSamples = (less : Row → Row → Bool) (n : ℕ) (samples : List Row) → All (λ bound. Contains samples bound) (bounds less n samples)
+
+-- n ranges have fewer bounds than n, whatever the samples
+abbrev pub BoundsAreFewer : Type 0
+BoundsAreFewer = (less : Row → Row → Bool) (n : ℕ) (samples : List Row) → 1 ≤ n → length (bounds less n samples) < n
+
+-- bounds are in the order by which they were made, and so a search in them may go by halves
+abbrev pub BoundsAreInOrder : Type 0
+BoundsAreInOrder = (less : Row → Row → Bool) → IsOrder less → (n : ℕ) (samples : List Row) →
+    InOrder less (bounds less n samples) × IsSortedBy less (bounds less n samples)
+
+-- a list that is sorted, and in which rows that tie stand as in another list, is the other list sorted
+abbrev pub SortedAndStableIsTheSort : Type 0
+SortedAndStableIsTheSort =
+    (less : Row → Row → Bool) → IsOrder less → (rows sorted : List Row) → IsSortedBy less sorted → IsStableBy less rows sorted →
+    sorted ≡ stable_sort less rows
+
+-- one row comes before another where its key does
+abbrev pub before_by : (Row → Row → Bool) → (Row → Row) → Row → Row → Bool
+before_by less key x y = less (key x) (key y)
+
+-- parts that stand in order end to end: no row of a later part comes before a row of an earlier one
+abbrev pub PartsInOrder : (Row → Row → Bool) → List (List Row) → Type 0
+PartsInOrder less [] = Unit {0}
+PartsInOrder less (part ∷ parts) = All (λ x. All (λ y. less y x ≡ false) (flat_map (λ later. later) parts)) part × PartsInOrder less parts
+
+-- parts by range stand in order end to end, for any list of bounds
+abbrev pub RangePartsAreInOrder : Type 0
+RangePartsAreInOrder = (less : Row → Row → Bool) → IsOrder less → (bounds : List Row) (key : Row → Row) (n : ℕ) (rows : List Row) →
+    PartsInOrder (before_by less key) (exchanged (by_range less bounds key) n rows)
+
+-- parts that stand in order, each sorted and put end to end, are their rows sorted
+abbrev pub SortedPartsAreSorted : Type 0
+SortedPartsAreSorted = (less : Row → Row → Bool) → IsOrder less → (parts : List (List Row)) → PartsInOrder less parts →
+    flat_map (stable_sort less) parts ≡ stable_sort less (flat_map (λ part. part) parts)
+
+-- the parts of an exchange by range, each sorted and put end to end, are the rows that came in, sorted; with fewer bounds than parts
+abbrev pub SortedRangesAreTheSort : Type 0
+SortedRangesAreTheSort = (less : Row → Row → Bool) → IsOrder less → (bounds : List Row) (key : Row → Row) (n : ℕ) (rows : List Row) → length bounds < n →
+    flat_map (stable_sort (before_by less key)) (exchanged (by_range less bounds key) n rows) ≡ stable_sort (before_by less key) rows
+
+-- the whole of a sort by range: whatever the samples, the parts by their bounds, each sorted and put end to end, are the rows sorted
+abbrev pub SampledRangesAreTheSort : Type 0
+SampledRangesAreTheSort = (less : Row → Row → Bool) → IsOrder less → (samples : List Row) (key : Row → Row) (n : ℕ) (rows : List Row) → 1 ≤ n →
+    flat_map (stable_sort (before_by less key)) (exchanged (by_range less (bounds less n samples) key) n rows) ≡ stable_sort (before_by less key) rows
