@@ -7,7 +7,7 @@ use Rattle.aqe_rules.specs.declared.names.Named.{Named}
 use Rattle.aqe_rules.specs.declared.typed.Typed.{Typed}
 use Rattle.aqe_rules.specs.Looks.{Alone, a_column, a_number, something}
 use Rattle.aqe_rules.specs.Selects.{name_of_column, own_name}
-use Rattle.aqe_typing.specs.Columns.{is_a_column}
+use Rattle.aqe_typing.specs.Alone.{is_a_column}
 
 pub column-name : (cs : List Named) (k : ℕ) (c : Named) → slice_get cs k ≡ Some c → name_of_column cs (Column k) ≡ c.name
 column-name [] k c e = absurd (cc)

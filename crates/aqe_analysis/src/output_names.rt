@@ -6,7 +6,7 @@ ghost use Rattle.aqe_expr.specs.declared.expr.Expr.{Column};
 ghost use Rattle.aqe_rules.specs.Expressions.{alone_of};
 ghost use Rattle.aqe_rules.specs.Looks.{Alone};
 ghost use Rattle.aqe_trees.specs.declared.expression.OrTree.{OrTree};
-ghost use Rattle.aqe_typing.specs.Columns.{is_a_column};
+ghost use Rattle.aqe_typing.specs.Alone.{is_a_column};
 ghost use Rattle.aqe_rules.specs.Selects as spec;
 ghost use Rattle.aqe_analysis.specs.Given.{Gives};
 

@@ -22,7 +22,7 @@ use Rattle.aqe_trees.specs.Shapes.{or_tree, and_tree, not_tree, predicate_tree, 
 use Rattle.aqe_rules.specs.Looks.{Alone, something, alone}
 use Rattle.aqe_rules.specs.Trees.{negated_if, chain, chain_of_one, made_of, made_of_and, made_of_not, made_of_predicate, made_of_test, made_of_comparison, made_of_sum, made_of_product, made_of_sign, made_of_primary}
 use Rattle.aqe_rules.proofs.Levels.{of_or, of_and, of_not, of_predicate, of_comparison, of_sum, of_product, of_sign, of_number, of_literal, of_boolean, of_null, of_column, of_table_column, of_paren, of_cast, of_count_all, of_call, of_case, of_plain, of_between, of_one_of, of_like, of_is}
-use Rattle.aqe_typing.specs.Columns.{is_a_column, is_column_of_or, is_column_of_and, is_column_of_not, is_column_of_predicate, is_column_of_comparison, is_column_of_sum, is_column_of_product, is_column_of_sign, is_column_of_primary}
+use Rattle.aqe_typing.specs.Alone.{is_a_column, is_column_of_or, is_column_of_and, is_column_of_not, is_column_of_predicate, is_column_of_comparison, is_column_of_sum, is_column_of_product, is_column_of_sign, is_column_of_primary}
 
 seen : {a b : Alone} → a ≡ b → is_a_column a ≡ is_a_column b
 seen e = ap is_a_column e

@@ -30,7 +30,7 @@ use Rattle.aqe_rules.specs.Readings as reading
 use Rattle.aqe_rules.specs.Readings.{Place, Reading, readings, within_call, column_named, column_of_item, aggregate_named}
 use Rattle.aqe_rules.specs.Trees.{times, under_signs, negated_if, chain, chain_of_one, made_of, made_of_and, made_of_not, made_of_predicate, made_of_comparison, made_of_sum, made_of_product, made_of_sign, made_of_primary, made_of_arm}
 use Rattle.aqe_rules.proofs.Levels.{of_or, of_and, of_not, of_predicate, of_comparison, of_sum, of_product, of_sign, of_arm, of_number, of_literal, of_boolean, of_null, of_column, of_table_column, of_paren, of_cast, of_count_all, of_call, of_case, of_plain, of_between, of_one_of, of_like, of_is}
-use Rattle.aqe_typing.specs.Values.{value_of_or, value_of_and, value_of_not, value_of_predicate, value_of_test, value_of_comparison, value_of_sum, value_of_product, value_of_sign, value_of_primary, value_of_arm, values_of, values_of_arms, value_if_any, on_two, on_three, not_times, not_if, signed, case}
+use Rattle.aqe_typing.specs.Values.{value_of_or, value_of_and, value_of_not, value_of_predicate, value_of_test, value_of_comparison, value_of_sum, value_of_product, value_of_sign, value_of_primary, value_of_arm, values_of, values_of_arms, value_if_any, on_two, on_three, not_times, not_if, with_signs, case}
 use Rattle.aqe_typing.specs.declared.calls.Call.{Call}
 use Rattle.aqe_typing.specs.Calls.{at_calls, arguments_at, calls_within, aggregate_call, called}
 
@@ -104,11 +104,11 @@ pub not_value : (count : ℕ) (operand : PredicateTree) (p : Place) → value_of
 unfolding value_of_not value_of_predicate
 not_value count operand p = at (of_not readings count operand) ∙ times_value count (made_of_predicate readings operand) p
 
-signs_value : (signs : List Sign) (a : Place → Reading) (p : Place) → (under_signs readings signs a p).value ≡ signed signs (a p).value
+signs_value : (signs : List Sign) (a : Place → Reading) (p : Place) → (under_signs readings signs a p).value ≡ with_signs signs (a p).value
 signs_value [] a p = refl
 signs_value (sign ∷ signs) a p = ap (λ (o : Outcome Typed). upon o (operation.signed_operation sign)) (signs_value signs a p)
 
-pub sign_value : (signs : List Sign) (operand : PrimaryTree) (p : Place) → value_of_sign (sign_tree signs operand) p ≡ signed signs (value_of_primary operand p)
+pub sign_value : (signs : List Sign) (operand : PrimaryTree) (p : Place) → value_of_sign (sign_tree signs operand) p ≡ with_signs signs (value_of_primary operand p)
 unfolding value_of_sign value_of_primary
 sign_value signs operand p = at (of_sign readings signs operand) ∙ signs_value signs (made_of_primary readings operand) p
 
@@ -222,10 +222,10 @@ called_at : (name : List ℕ) (arguments : List OrTree) (p : Place) (fun : Optio
 called_at name arguments p (Some fun) = ap (λ (os : List (Outcome Typed)). called name (Some fun) (length p.columns) p.calls (each os)) (at_list arguments (within_call p))
 called_at name arguments p None = ap (λ (os : List (Outcome Typed)). called name None (length p.columns) p.calls (each os)) (at_list arguments p)
 
-pub call_value : (name : List ℕ) (arguments : List OrTree) (p : Place) (fun : Option AggFun) (n : ℕ) → fun ≡ aggregate_named name → n ≡ length p.columns →
+pub called_value : (name : List ℕ) (arguments : List OrTree) (p : Place) (fun : Option AggFun) (n : ℕ) → fun ≡ aggregate_named name → n ≡ length p.columns →
     value_of_primary (primary.Call name arguments) p ≡ called name fun n p.calls (values_of arguments (arguments_at fun p))
 unfolding value_of_primary
-call_value name arguments p fun n e h = rw (e, h) (at (of_call readings name arguments) ∙ called_at name arguments p (aggregate_named name))
+called_value name arguments p fun n e h = rw (e, h) (at (of_call readings name arguments) ∙ called_at name arguments p (aggregate_named name))
 
 pub inner_place : (fun : Option AggFun) (p : Place) (calls inner : List Call) → inner ≡ calls_within fun calls → at_calls p inner ≡ arguments_at fun (at_calls p calls)
 inner_place (Some fun) p calls inner e = ap (at_calls p) e

@@ -81,9 +81,9 @@ abbrev pub not_if : Bool → Outcome Typed → Outcome Typed
 not_if true a = upon a operation.negation
 not_if false a = a
 
-abbrev pub signed : List Sign → Outcome Typed → Outcome Typed
-signed [] a = a
-signed (sign ∷ signs) a = upon (signed signs a) (operation.signed_operation sign)
+abbrev pub with_signs : List Sign → Outcome Typed → Outcome Typed
+with_signs [] a = a
+with_signs (sign ∷ signs) a = upon (with_signs signs a) (operation.signed_operation sign)
 
 -- CASE
 abbrev pub case : Outcome (Option Typed) → Outcome (List (Typed × Typed)) → Outcome (Option Typed) → Outcome Typed

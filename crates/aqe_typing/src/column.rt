@@ -3,7 +3,7 @@
 //! At each level it has one operand, and no operator on it.
 
 ghost use Rattle.std.specs.Prelude.{◌≡◌};
-ghost use Rattle.aqe_typing.specs.Columns.{is_column_of_or, is_column_of_and, is_column_of_not, is_column_of_predicate, is_column_of_comparison, is_column_of_sum, is_column_of_product, is_column_of_sign, is_column_of_primary};
+ghost use Rattle.aqe_typing.specs.Alone.{is_column_of_or, is_column_of_and, is_column_of_not, is_column_of_predicate, is_column_of_comparison, is_column_of_sum, is_column_of_product, is_column_of_sign, is_column_of_primary};
 
 use aqe_script::parts::{
     and_parts, comparison_parts, not_parts, or_parts, predicate_parts, product_parts, sign_parts,

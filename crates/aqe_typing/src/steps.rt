@@ -189,7 +189,7 @@ pub(crate) fn under_signs(
     signs: &[Sign],
     a: Result<Typed, AnalysisFault>,
 ) -> Result<Typed, AnalysisFault>
-    ensures { (o : Outcome Typed) → Says a o → Says result (spec.signed signs.now o) }
+    ensures { (o : Outcome Typed) → Says a o → Says result (spec.with_signs signs.now o) }
 {
     let mut value = a;
     let mut rest = signs;

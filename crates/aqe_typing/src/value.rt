@@ -5,7 +5,7 @@ ghost use Rattle.aqe_rules.specs.Expressions.{read, alone_of};
 ghost use Rattle.aqe_rules.specs.Sources.{over};
 ghost use Rattle.aqe_rules.specs.Selects.{with_aliases};
 ghost use Rattle.aqe_rules.specs.Faults.{Says};
-ghost use Rattle.aqe_typing.specs.Columns.{is_a_column};
+ghost use Rattle.aqe_typing.specs.Alone.{is_a_column};
 ghost use Rattle.aqe_typing.specs.Places.{place_seen};
 
 use crate::aliases::WithAliases;

@@ -14,7 +14,7 @@ use Rattle.aqe_rules.specs.Faults.{Says}
 use Rattle.aqe_typing.specs.Calls.{at_calls, arguments_at}
 use Rattle.aqe_typing.specs.Values.{value_of_or, value_of_and, value_of_not, value_of_predicate, value_of_test, value_of_comparison, value_of_sum, value_of_product, value_of_sign, value_of_primary, value_of_arm, values_of, values_of_arms, value_if_any, on_two, on_three, SaysAll}
 use Rattle.aqe_typing.proofs.Turns.{begun, turned, ended, said, given}
-use Rattle.aqe_typing.proofs.LevelValues.{or_step, and_step, comparison_step, sum_step, product_step, or_value, and_value, not_value, predicate_value, is_comparison, comparison_value, sum_value, product_value, sign_value, arm_value, plain_value, between_value, one_of_value, like_value, is_value, number_value, literal_value, boolean_value, null_value, column_value, table_column_value, paren_value, cast_value, case_value, count_all_value, inner_place, call_value}
+use Rattle.aqe_typing.proofs.LevelValues.{or_step, and_step, comparison_step, sum_step, product_step, or_value, and_value, not_value, predicate_value, is_comparison, comparison_value, sum_value, product_value, sign_value, arm_value, plain_value, between_value, one_of_value, like_value, is_value, number_value, literal_value, boolean_value, null_value, column_value, table_column_value, paren_value, cast_value, case_value, count_all_value, inner_place, called_value}
 use Rattle.aqe_typing.proofs.levels.+expression.Goals as goal
 
 pub or-more-init : goal.or-more-init
@@ -192,7 +192,7 @@ primary-returns-in-Call g t c =
     let place = g.N.Names.place c.args.names.now in
     let p = at_calls place c.args.calls.now in
     let name = c.in-Call.name in
-    said c.called.result _ _ (ap (λ (tree : PrimaryTree). value_of_primary tree p) c.in-Call.is ∙ call_value name c.in-Call.arguments p _ _ c.aggregate_named-fun.ensures c.width-in-Call.ensures)
+    said c.called.result _ _ (ap (λ (tree : PrimaryTree). value_of_primary tree p) c.in-Call.is ∙ called_value name c.in-Call.arguments p _ _ c.aggregate_named-fun.ensures c.width-in-Call.ensures)
     (c.called.ensures (values_of c.in-Call.arguments (arguments_at c.aggregate_named-fun.result p))
     (subst (λ (q : Place). SaysAll c.several-arguments.result (values_of c.in-Call.arguments q)) (inner_place c.aggregate_named-fun.result place c.args.calls.now _ c.calls_within-inner.ensures)
     (subst (λ (trees : List OrTree). SaysAll c.several-arguments.result (values_of trees (at_calls place c.calls_within-inner.result.now))) c.as_slice-in-Call.ensures c.several-arguments.ensures)))
