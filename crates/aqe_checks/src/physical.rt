@@ -104,3 +104,35 @@ fn kinds_of_stages_are_copied(rt: HostRuntime) -> Result<(), Fail> {
     assert!(rt; copy_kind(alloc, &kind).is_ok());
     Ok(())
 }
+
+/// A union of 256 leaves, each further one to the right of those before it.
+fn many_leaves(alloc: Global) -> Result<Plan, Memory> {
+    let mut plan = Plan::OneRow;
+    for _ in 0..255u32 {
+        plan = Plan::union(alloc, plan, Plan::OneRow)?;
+    }
+    Ok(plan)
+}
+
+/// A thousand filters, one over the other.
+fn deep(alloc: Global) -> Result<Plan, Memory> {
+    let mut plan = Plan::OneRow;
+    for _ in 0..1000u32 {
+        plan = Plan::filter(alloc, truth(), plan)?;
+    }
+    Ok(plan)
+}
+
+#[test]
+fn plans_of_many_leaves_are_copied_and_dropped(rt: HostRuntime) -> Result<(), Fail> {
+    let plan = many_leaves(rt.alloc())?;
+    assert!(rt; copy(rt.alloc(), &plan).is_ok());
+    Ok(())
+}
+
+#[test]
+fn deep_plans_are_copied_and_dropped(rt: HostRuntime) -> Result<(), Fail> {
+    let plan = deep(rt.alloc())?;
+    assert!(rt; copy(rt.alloc(), &plan).is_ok());
+    Ok(())
+}
