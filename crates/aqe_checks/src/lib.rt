@@ -24,4 +24,6 @@ mod sources;
 #[cfg(test)]
 mod tables;
 #[cfg(test)]
+mod tasks;
+#[cfg(test)]
 mod values;
