@@ -55,9 +55,13 @@ fn texts_are_hashed_by_words_and_then_by_bytes(rt: HostRuntime) -> Result<(), Fa
     for (text, hashed) in [
         ("", 142593372),
         ("a", 1485273170),
+        ("ab", -97053317),
         ("abc", 1322437556),
         ("abcd", -396302900),
+        ("abcde", 814637928),
+        ("abcdef", 724255765),
         ("abcdefg", 2132013596),
+        ("abcdefgh", -804741815),
         ("abcdefghi", -1830117711),
         ("é", 2119106806),
         ("ÿ", 1533202516),
