@@ -207,3 +207,40 @@ fn rows_are_filtered_and_projected(rt: HostRuntime) -> Result<(), Fail> {
     }
     Ok(())
 }
+
+/// Partial rows of one key and one count, finished.
+fn counts_finished(alloc: Global, partial: &str) -> Result<String, Fail> {
+    let mut calls = AggCalls::new(alloc);
+    calls.push(AggCall {
+        fun: AggFun::Count,
+        arg: Expr::Column(0),
+    })?;
+    if calls.len() > 500 {
+        return Err(Fail::new("many calls"));
+    }
+    let done = final_rows(alloc, 1, &calls, &rows_of(alloc, partial)?)?;
+    Ok(text_of(alloc, done.slice())?)
+}
+
+#[test]
+fn counts_of_parts_add_up_and_wrap(rt: HostRuntime) -> Result<(), Fail> {
+    let alloc = rt.alloc();
+    for (partial, finished) in [
+        (
+            "k,3000000000;l,3000000001;k,3000000000",
+            "k,6000000000L;l,3000000001L",
+        ),
+        ("k,9223372036854775807;k,9223372036854775807", "k,-2L"),
+        (
+            "~,9223372036854775807;~,3000000000",
+            "~,-9223372033854775809L",
+        ),
+    ] {
+        assert_eq!(rt;
+            counts_finished(alloc, partial)?.as_str(),
+            finished,
+            "{partial}"
+        );
+    }
+    Ok(())
+}
