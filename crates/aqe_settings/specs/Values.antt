@@ -88,8 +88,8 @@ number_or other value.Unset = other
 abbrev pub shuffle_partitions : List Value → ℕ
 shuffle_partitions values = number_or 0 (value_of key.ShufflePartitions values)
 
--- The number of partitions of an exchange: the initial number where it is set and both adaptive execution and coalescing are on, else the
--- number of shuffle partitions.
+-- How many partitions an exchange has: as many as the shuffle partitions say. Where the rest of a query is planned again and small partitions
+-- may be joined, it can begin with more: then the initial number counts, if there is one.
 abbrev pub partitions : List Value → ℕ
 partitions values =
     if is_on (value_of key.Enabled values) && is_on (value_of key.Coalesce values)
