@@ -1,0 +1,6 @@
+pub mod Asked
+pub mod Needed
+pub mod States
+pub mod Known
+pub mod Restrictions
+pub mod LegalRecord
