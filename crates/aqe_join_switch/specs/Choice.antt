@@ -87,15 +87,25 @@ abbrev pub in_case : (Side → JoinChoice) → Option Side → JoinChoice → Jo
 in_case way None behind = behind
 in_case way (Some side) behind = way side
 
--- The choice: the broadcast of a side that is held so; else of a side that is small; else a hash join of a side that may be hashed;
--- else a sort-merge join.
+-- the side that is held by a broadcast stage, the right before the left
+abbrev pub held_side : JoinKind → Option SideData → Option SideData → Option Side
+held_side kind left right = right_first (known (is_held kind Left) left) (known (is_held kind Right) right)
+
+-- the side that is broadcast for its size; the side that is hashed
+abbrev pub small_side : JoinKind → Option SideData → Option SideData → JoinRule → Option Side
+small_side kind left right rule =
+    smaller (known (λ sizes. fits_broadcast kind Left sizes rule) left) (known (λ sizes. fits_broadcast kind Right sizes rule) right)
+        (total_of left) (total_of right)
+
+abbrev pub hashed_side : JoinKind → Option SideData → Option SideData → JoinRule → Option Side
+hashed_side kind left right rule =
+    smaller (known (λ sizes. prefers_hash kind Left sizes rule) left) (known (λ sizes. prefers_hash kind Right sizes rule) right)
+        (total_of left) (total_of right)
+
+-- The choice, the first case that holds: the broadcast of a side that is held so; the broadcast of a side that is small;
+-- a hash join of a side that may be hashed; else a sort-merge join.
 abbrev pub choice : JoinKind → Option SideData → Option SideData → JoinRule → JoinChoice
 choice kind left right rule =
-    in_case Broadcast (right_first (known (is_held kind Left) left) (known (is_held kind Right) right))
-    (in_case Broadcast
-        (smaller (known (λ sizes. fits_broadcast kind Left sizes rule) left) (known (λ sizes. fits_broadcast kind Right sizes rule) right)
-            (total_of left) (total_of right))
-    (in_case ShuffledHash
-        (smaller (known (λ sizes. prefers_hash kind Left sizes rule) left) (known (λ sizes. prefers_hash kind Right sizes rule) right)
-            (total_of left) (total_of right))
-    SortMerge))
+    in_case Broadcast (held_side kind left right)
+    (in_case Broadcast (small_side kind left right rule)
+    (in_case ShuffledHash (hashed_side kind left right rule) SortMerge))
