@@ -5,3 +5,4 @@ pub mod OneCut
 pub mod OneReads
 pub mod OnePlan
 pub mod NoReads
+pub mod KnownAnswers
