@@ -1,8 +1,7 @@
 -- Plans that are alike: the same but for the numbers and rectangles of reads, and for the parts of no row.
-use Rattle.std.proofs.Common.{◌≡◌, refl, ℕ, List, Option, Bool, ap}
+use Rattle.std.proofs.Common.{◌≡◌, refl, ℕ, List, Option, ap}
 use Rattle.aqe_base.specs.declared.cells.Rect.{Rect}
 use Rattle.aqe_base.specs.declared.join_kind.JoinKind.{JoinKind}
-use Rattle.aqe_base.specs.declared.join_kind.Side.TheVariants.{Left, Right}
 use Rattle.aqe_base.specs.declared.stage_id.StageId.{StageId}
 use Rattle.aqe_expr.specs.declared.expr.Expr.{Expr}
 use Rattle.aqe_logical.specs.declared.plan.AggCall.{AggCall}
@@ -10,10 +9,9 @@ use Rattle.aqe_logical.specs.declared.plan.SortKey.{SortKey}
 use Rattle.aqe_join_rows.specs.declared.join_keys.JoinKeys.{JoinKeys}
 use Rattle.aqe_physical.specs.declared.target.Target.{Target}
 use Rattle.aqe_physical.specs.declared.target.JoinWay.{JoinWay}
-use Rattle.aqe_physical.specs.declared.target.JoinWay.TheVariants as way
 use Rattle.aqe_physical.specs.declared.plan.Plan.{Plan, OneRow, Scan, Nothing, Read, ReadBroadcast}
 use Rattle.aqe_physical.specs.Shapes.{kept, mapped, moved, matched, grouped, finished, ordered, cut_locally, cut_globally, both_of}
-use Rattle.aqe_fitting.specs.Strands.{Strand, strand, stage_read, relying, join_strand}
+use Rattle.aqe_fitting.specs.Strands.{strand, stage_read, relying, join_strand}
 use Rattle.aqe_fitting.specs.Placing.{is_nothing, is_kept_whole}
 
 pub data Alike : Plan → Plan → Type 0 where

@@ -1,9 +1,8 @@
 -- Small plans for each row of the table of planning, worked out by hand from the rules: a check of the definitions.
 use Rattle.std.proofs.Common.{◌≡◌, refl, ℕ, List, [], ◌∷◌, Some, None, true, false, pos}
-use Rattle.aqe_base.specs.declared.cells.Rect.{Rect}
 use Rattle.aqe_base.specs.declared.join_kind.JoinKind.{JoinKind}
 use Rattle.aqe_base.specs.declared.join_kind.JoinKind.TheVariants.{Inner, LeftOuter, RightOuter, FullOuter, LeftSemi}
-use Rattle.aqe_base.specs.declared.join_kind.Side.TheVariants.{Left, Right}
+use Rattle.aqe_base.specs.declared.join_kind.Side.TheVariants.{Right}
 use Rattle.aqe_base.specs.declared.stage_id.StageId.{StageId}
 use Rattle.aqe_values.specs.declared.value.Value.TheVariants.{Boolean, Int}
 use Rattle.aqe_values.specs.declared.schema.Field.{Field}
@@ -19,7 +18,7 @@ use Rattle.aqe_logical.specs.declared.plan.Placement.TheVariants as place
 use Rattle.aqe_logical.specs.declared.plan.SortKey.{SortKey}
 use Rattle.aqe_logical.specs.declared.plan.Logical as logical
 use Rattle.aqe_logical.specs.declared.plan.Logical.{Logical}
-use Rattle.aqe_logical.specs.Shapes.{filtered, projected, joined, aggregated, united, sorted, limited, sampled}
+use Rattle.aqe_logical.specs.Shapes.{joined, aggregated, sorted, limited, sampled}
 use Rattle.aqe_settings.specs.Values.{default_values}
 use Rattle.aqe_join_rows.specs.declared.join_keys.JoinKeys.{JoinKeys}
 use Rattle.aqe_physical.specs.declared.target.Target.TheVariants as target
@@ -27,13 +26,13 @@ use Rattle.aqe_physical.specs.declared.target.JoinWay.{JoinWay}
 use Rattle.aqe_physical.specs.declared.target.JoinWay.TheVariants as way
 use Rattle.aqe_physical.specs.declared.plan.Plan as plan
 use Rattle.aqe_physical.specs.declared.plan.Plan.{Plan}
-use Rattle.aqe_physical.specs.Shapes.{kept, mapped, moved, matched, grouped, finished, ordered, cut_locally, cut_globally, both_of}
+use Rattle.aqe_physical.specs.Shapes.{moved, matched, grouped, finished, ordered, cut_locally, cut_globally, both_of}
 use Rattle.aqe_fitting.specs.Keys.{keys_of}
 use Rattle.aqe_fitting.specs.Placing.{after_project, after_groups, after_join, placed_behind, keeps_groups}
-use Rattle.aqe_fitting.specs.Planning.{Planned, stays, goes, a_row, a_scan, a_nothing, a_read, a_whole_read, a_filter, a_project, by_parts, by_whole_right, by_loop, groups_here, groups_moved, groups_read, a_union, sort_here, sort_moved, limit_here, limit_moved, skip_moved, a_sampled}
+use Rattle.aqe_fitting.specs.Planning.{Planned, stays, goes, a_row, a_scan, a_nothing, a_read, by_parts, by_loop, groups_here, groups_moved, groups_read, sort_here, sort_moved, limit_moved, skip_moved, a_sampled}
 use Rattle.aqe_physical.specs.declared.sizes.StageSize.{StageSize}
 use Rattle.aqe_fitting.specs.Strands.{relies_on_place, strand}
-use Rattle.aqe_fitting.specs.ReadsFit.{Cut, uncut, stays_uncut, Facts, may_cut, is_local, coalesces, strand_sizes, strand_target}
+use Rattle.aqe_fitting.specs.ReadsFit.{uncut, stays_uncut, Facts, may_cut, is_local, coalesces, strand_sizes, strand_target}
 use Rattle.aqe_fitting.specs.Fits.{Fits}
 
 -- a table with two columns and two files; an exchange has four parts; every join is merged

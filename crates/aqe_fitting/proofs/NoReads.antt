@@ -1,6 +1,5 @@
 -- A plan that reads no stage has reads that fit.
-use Rattle.std.proofs.Common.{◌≡◌, refl, ◌∙◌, ℕ, Bool, true, false, ◌&&◌, not, List, [], ◌++◌}
-use Rattle.aqe_base.specs.declared.stage_id.StageId.{StageId}
+use Rattle.std.proofs.Common.{◌≡◌, refl, ◌∙◌, ℕ, Bool, true, false, ◌&&◌, not, [], ◌++◌}
 use Rattle.aqe_base.specs.declared.join_kind.Side.TheVariants.{Left, Right}
 use Rattle.aqe_settings.specs.declared.key.SettingKey.TheVariants as key
 use Rattle.aqe_settings.specs.Values.{value_of, is_on}
@@ -9,7 +8,7 @@ use Rattle.aqe_physical.specs.declared.plan.Plan.{Plan, OneRow, Scan, Nothing, R
 use Rattle.aqe_physical.specs.Shapes.{kept, mapped, moved, matched, grouped, finished, ordered, cut_locally, cut_globally, both_of}
 use Rattle.aqe_physical.proofs.Nodes.{Each, each}
 use Rattle.aqe_fitting.specs.Strands.{Strand, strand}
-use Rattle.aqe_fitting.specs.ReadsFit.{Cut, uncut, CutOf, stays_uncut, Facts, HasParts, ReadsFit, on_left, on_right, parts_beside, may_cut, all_made}
+use Rattle.aqe_fitting.specs.ReadsFit.{Cut, uncut, CutOf, stays_uncut, Facts, HasParts, ReadsFit, on_left, on_right, parts_beside, all_made}
 use Rattle.aqe_fitting.specs.Laws.{IsNoRead, PlansWithoutReadsFit}
 
 quiet : (p : Plan) → Each IsNoRead p → (strand p).reads ≡ []

@@ -1,11 +1,10 @@
 -- A strand has one cut at most, as long as skewed partitions are not split.
-use Rattle.std.proofs.Common.{◌≡◌, refl, sym, ◌∙◌, ap, Bool, true, false, cond, Option, None, Some, List}
+use Rattle.std.proofs.Common.{◌≡◌, refl, ap, Bool, true, false, cond, None, Some}
 use Rattle.aqe_settings.specs.declared.key.SettingKey.TheVariants as key
 use Rattle.aqe_settings.specs.Values.{value_of, is_on}
-use Rattle.aqe_coalesce.specs.Coalesced.{Group, Coalesced}
 use Rattle.aqe_coalesce.specs.Laws.{OneListOfGroups}
 use Rattle.aqe_fitting.specs.Strands.{Strand}
-use Rattle.aqe_fitting.specs.ReadsFit.{Cut, uncut, in_runs, in_groups, in_pairs, Facts, CutOf, stays_uncut, goes_local, goes_skewed, goes_together, goes_plain, may_cut, is_local, coalesces, skew_sides, sides_at, strand_sizes, strand_target, Sides}
+use Rattle.aqe_fitting.specs.ReadsFit.{Cut, in_groups, Facts, CutOf, stays_uncut, goes_local, goes_skewed, goes_together, goes_plain, may_cut, is_local, coalesces, skew_sides, sides_at, strand_sizes, strand_target, Sides}
 
 module _ (facts : Facts) (s : Strand) (one : OneListOfGroups) (even : is_on (value_of key.Skew facts.settings) ≡ false) where
   not_both : (a : Bool) → a ≡ true → a ≡ false → ⊥

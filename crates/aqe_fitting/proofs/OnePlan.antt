@@ -1,5 +1,5 @@
 -- At most one plan fits.
-use Rattle.std.proofs.Common.{◌≡◌, refl, sym, ◌∙◌, subst, ℕ, false, List, [], ◌∷◌}
+use Rattle.std.proofs.Common.{◌≡◌, refl, sym, ◌∙◌, subst, false, List, [], ◌∷◌}
 use Rattle.aqe_base.specs.declared.join_kind.JoinKind.{JoinKind}
 use Rattle.aqe_logical.specs.declared.plan.Logical.{Logical}
 use Rattle.aqe_settings.specs.declared.entry.Value.{Value}
@@ -9,7 +9,6 @@ use Rattle.aqe_coalesce.proofs.Unique.{one_list}
 use Rattle.aqe_physical.specs.declared.sizes.Estimate.{Estimate}
 use Rattle.aqe_physical.specs.declared.sizes.StageSize.{StageSize}
 use Rattle.aqe_physical.specs.declared.target.JoinWay.{JoinWay}
-use Rattle.aqe_physical.specs.declared.plan.Plan.{Plan}
 use Rattle.aqe_fitting.specs.InForce.{in_force}
 use Rattle.aqe_fitting.specs.Known.{files_of}
 use Rattle.aqe_join_switch.specs.declared.sizes.JoinChoice.{JoinChoice}
@@ -18,7 +17,7 @@ use Rattle.aqe_join_switch.specs.Choice.{choice as chosen_way}
 use Rattle.aqe_join_switch.specs.Laws.{BuildsWhatMayBeBuilt}
 use Rattle.aqe_join_switch.proofs.Built.{built}
 use Rattle.aqe_fitting.specs.Ways.{ways_by_sizes, way_of, side_sizes, join_rule}
-use Rattle.aqe_fitting.specs.Fits.{Fits, facts_of}
+use Rattle.aqe_fitting.specs.Fits.{facts_of}
 use Rattle.aqe_fitting.specs.Laws.{ChoosesOne, OnePlanFits, PlannedAtOnePlace, PlannedWithSidesThatMayBeBuilt, may_be_built}
 use Rattle.aqe_fitting.proofs.Grows.{grows}
 use Rattle.aqe_fitting.proofs.OneShape.{same}

@@ -1,13 +1,11 @@
 -- Where each join has one way, two plans of one logical plan are alike, and their rows stand at one place.
-use Rattle.std.proofs.Common.{◌≡◌, refl, sym, ◌∙◌, ap, subst, ℕ, ◌+◌, ◌-◌, Bool, true, false, cond, Option, Some, None, List, length}
+use Rattle.std.proofs.Common.{◌≡◌, refl, sym, ◌∙◌, ap, subst, ℕ, Bool, true, false, cond, Some, None, List}
 use Rattle.aqe_base.specs.declared.join_kind.JoinKind.{JoinKind}
 use Rattle.aqe_base.specs.declared.join_kind.Side.TheVariants.{Left, Right}
-use Rattle.aqe_base.specs.declared.stage_id.StageId.{StageId}
 use Rattle.aqe_expr.specs.declared.expr.Expr.{Expr}
 use Rattle.aqe_logical.specs.declared.plan.AggCall.{AggCall}
 use Rattle.aqe_logical.specs.declared.plan.Placement.{Placement}
 use Rattle.aqe_logical.specs.declared.plan.Placement.TheVariants as place
-use Rattle.aqe_logical.specs.declared.plan.SortKey.{SortKey}
 use Rattle.aqe_logical.specs.declared.plan.Logical.{Logical}
 use Rattle.aqe_join_rows.specs.declared.join_keys.JoinKeys.{JoinKeys}
 use Rattle.aqe_physical.specs.declared.target.Target.{Target}
@@ -15,10 +13,10 @@ use Rattle.aqe_physical.specs.declared.target.Target.TheVariants as target
 use Rattle.aqe_physical.specs.declared.target.JoinWay.{JoinWay}
 use Rattle.aqe_physical.specs.declared.target.JoinWay.TheVariants as way
 use Rattle.aqe_physical.specs.declared.plan.Plan.{Plan, Scan, Nothing, Read}
-use Rattle.aqe_physical.specs.Shapes.{kept, mapped, moved, matched, grouped, finished, ordered, cut_locally, cut_globally, both_of}
-use Rattle.aqe_fitting.specs.Keys.{keys_of, has_keys}
-use Rattle.aqe_fitting.specs.Placing.{Asks, one_part, hash_of, groups_of, order_of, whole, gives, serves, is_nothing, is_single, is_hash_of, keeps_groups, keeps_order, is_broadcast, after_project, after_groups, after_join, placed_behind, place_of, place_of_groups, groups_target}
-use Rattle.aqe_fitting.specs.Planning.{Brought, stays, goes, IsCut, is_by_parts, Planned, a_row, a_scan, a_nothing, a_read, a_whole_read, a_filter, a_project, by_parts, by_whole_right, by_whole_left, by_loop, groups_here, groups_moved, groups_read, a_union, sort_here, sort_moved, limit_here, limit_moved, skip_moved, a_sampled}
+use Rattle.aqe_physical.specs.Shapes.{moved, matched, grouped, finished, cut_locally}
+use Rattle.aqe_fitting.specs.Keys.{has_keys}
+use Rattle.aqe_fitting.specs.Placing.{Asks, one_part, hash_of, groups_of, order_of, whole, gives, serves, is_single, is_hash_of, keeps_groups, keeps_order, after_project, after_groups, after_join, placed_behind, place_of, groups_target}
+use Rattle.aqe_fitting.specs.Planning.{Brought, stays, goes, is_by_parts, Planned, a_row, a_scan, a_nothing, a_read, a_whole_read, a_filter, a_project, by_parts, by_whole_right, by_whole_left, by_loop, groups_here, groups_moved, groups_read, a_union, sort_here, sort_moved, limit_here, limit_moved, skip_moved, a_sampled}
 use Rattle.aqe_fitting.specs.Laws.{Chooses, ChoosesOne}
 use Rattle.aqe_fitting.proofs.Alike.{Alike, one_rows, scans, nothings, reads, whole_reads, filters, projects, exchanges, joins, partials, finals, sorts, local_limits, global_limits, unions, alike_nothing, alike_kept_whole}
 

@@ -1,5 +1,5 @@
 -- Which plan fits a logical plan, by what is known of tables and stages and by the settings.
-use Rattle.std.specs.Prelude.{ℕ, List}
+use Rattle.std.specs.Prelude.{List}
 use Rattle.aqe_logical.specs.declared.plan.Placement.{Placement}
 use Rattle.aqe_logical.specs.declared.plan.Logical.{Logical}
 use Rattle.aqe_settings.specs.declared.entry.Value.{Value}

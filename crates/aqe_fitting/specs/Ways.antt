@@ -1,7 +1,6 @@
 -- The way of a join, by what is known of the sizes of its sides.
-use Rattle.std.specs.Prelude.{ℕ, ℤ, pos, sum, Bool, ◌≡◌, cond, Option, Some, None, List, [], option_map}
+use Rattle.std.specs.Prelude.{ℕ, ℤ, pos, sum, ◌≡◌, cond, Option, Some, None, List, [], option_map}
 use Rattle.aqe_base.specs.declared.join_kind.JoinKind.{JoinKind}
-use Rattle.aqe_base.specs.declared.stage_id.StageId.{StageId}
 use Rattle.aqe_logical.specs.declared.plan.Placement.{Placement}
 use Rattle.aqe_logical.specs.declared.plan.Placement.TheVariants as place
 use Rattle.aqe_logical.specs.declared.plan.Logical as logical
