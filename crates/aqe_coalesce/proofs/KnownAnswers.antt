@@ -1,8 +1,8 @@
 -- Answers that were worked out by hand from the rules: a check of the definitions.
-use Rattle.std.proofs.Common.{◌≡◌, ℕ, ◌+◌, ◌<◌, ◌≤◌, ◌⊎◌, List, [], ◌∷◌, refl, arith, rules, inl, inr}
+use Rattle.std.proofs.Common.{◌≡◌, ℕ, List, [], ◌∷◌, refl, arith, inl, inr}
 use Rattle.std.proofs.lemmas.List.Elements.{All-nil, All-cons}
 use Rattle.aqe_coalesce.specs.Target.{target_of}
-use Rattle.aqe_coalesce.specs.Coalesced.{Group, Follow, HasPartitions, IsWithin, IsFull, Coalesced}
+use Rattle.aqe_coalesce.specs.Coalesced.{HasPartitions, IsWithin, IsFull, Coalesced}
 
 -- 100 bytes for one task are below the least size
 at_least : target_of 100 1 67108864 1048576 ≡ 1048576

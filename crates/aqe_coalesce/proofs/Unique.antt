@@ -1,9 +1,9 @@
 -- There is one list of groups at most.
-use Rattle.std.proofs.Common.{◌≡◌, ℕ, ◌+◌, ◌-◌, ◌<◌, ◌≤◌, ◌⊎◌, List, [], ◌∷◌, length, refl, ap, sym, ◌∙◌, arith, subst, inl, inr}
+use Rattle.std.proofs.Common.{◌≡◌, ℕ, ◌+◌, ◌<◌, ◌≤◌, List, [], ◌∷◌, length, refl, sym, ◌∙◌, arith, subst, inl, inr}
 use Rattle.std.specs.Prelude.{All}
 use Rattle.std.proofs.lemmas.List.Elements.{All-head, All-tail}
 use Rattle.std.proofs.lemmas.Bool.{cases_lt}
-use Rattle.aqe_coalesce.specs.Coalesced.{Group, size_of, Follow, HasPartitions, IsWithin, IsFull, Coalesced}
+use Rattle.aqe_coalesce.specs.Coalesced.{Group, size_of, Follow, HasPartitions, IsWithin, IsFull}
 use Rattle.aqe_coalesce.specs.Laws.{OneListOfGroups}
 use Rattle.aqe_coalesce.proofs.Sums.{size_of_grows}
 
@@ -19,12 +19,13 @@ module _ (sizes : List ℕ) (target : ℕ) where
   -- a group that is full is not shorter than one within the target that begins where it does
   not_shorter : (g h : Group) → g.0 ≡ h.0 → HasPartitions g → IsFull sizes target g → IsWithin sizes target h → h.1 ≤ length sizes → g.1 < h.1 → ⊥
   not_shorter g h same filled full within end shorter = elim within [
-      inl one ↦ omega (arith, one, filled, same, shorter)
+    | inl one ↦ omega (arith, one, filled, same, shorter)
     | inr fits ↦
         let over : target < size_of sizes (g.0, g.1 + 1) = full (omega (arith, shorter, end)) in
         let grows : size_of sizes (g.0, g.1 + 1) ≤ size_of sizes (g.0, h.1) = size_of_grows sizes g.0 (g.1 + 1) h.1 (omega (arith, shorter)) in
         let here : size_of sizes (g.0, h.1) ≤ target = rw same fits in
-        omega (arith, over, grows, here) ]
+        omega (arith, over, grows, here)
+  ]
 
   same_group : (g h : Group) → g.0 ≡ h.0 → g.1 ≡ h.1 → g ≡ h
   same_group g h first second = λ i. (first i, second i)
@@ -46,20 +47,21 @@ module _ (sizes : List ℕ) (target : ℕ) where
       let end_g : g.1 ≤ length sizes = follow_le g.1 (length sizes) gs follow_g.1 (All-tail HasPartitions g gs filled_g) in
       let end_h : h.1 ≤ length sizes = follow_le h.1 (length sizes) hs follow_h.1 (All-tail HasPartitions h hs filled_h) in
       let no_g : g.1 < h.1 → ⊥ = not_shorter g h start (All-head HasPartitions g gs filled_g) (All-head (IsFull sizes target) g gs full_g)
-              (All-head (IsWithin sizes target) h hs within_h) end_h in
+      (All-head (IsWithin sizes target) h hs within_h) end_h in
       let no_h : h.1 < g.1 → ⊥ = not_shorter h g (sym start) (All-head HasPartitions h hs filled_h) (All-head (IsFull sizes target) h hs full_h)
-              (All-head (IsWithin sizes target) g gs within_g) end_g in
+      (All-head (IsWithin sizes target) g gs within_g) end_g in
       let end : g.1 ≡ h.1 = as_long g.1 h.1 no_g no_h in
       λ i. same_group g h start end i ∷
-          one_from g.1 gs hs follow_g.1 (subst (λ b. Follow b (length sizes) hs) (sym end) follow_h.1)
-              (All-tail HasPartitions g gs filled_g) (All-tail HasPartitions h hs filled_h)
-              (All-tail (IsWithin sizes target) g gs within_g) (All-tail (IsWithin sizes target) h hs within_h)
-              (All-tail (IsFull sizes target) g gs full_g) (All-tail (IsFull sizes target) h hs full_h) i
+      one_from g.1 gs hs follow_g.1 (subst (λ b. Follow b (length sizes) hs) (sym end) follow_h.1)
+      (All-tail HasPartitions g gs filled_g) (All-tail HasPartitions h hs filled_h)
+      (All-tail (IsWithin sizes target) g gs within_g) (All-tail (IsWithin sizes target) h hs within_h)
+      (All-tail (IsFull sizes target) g gs full_g) (All-tail (IsFull sizes target) h hs full_h) i
     where
       as_long : (m n : ℕ) → (m < n → ⊥) → (n < m → ⊥) → m ≡ n
       as_long m n not_less not_more = elim (cases_lt m n) [
-          inl less ↦ absurd (not_less less)
-        | inr le ↦ elim (cases_lt n m) [ inl more ↦ absurd (not_more more) | inr ge ↦ omega (arith, le, ge) ] ]
+        | inl less ↦ absurd (not_less less)
+        | inr le ↦ elim (cases_lt n m) [ inl more ↦ absurd (not_more more) | inr ge ↦ omega (arith, le, ge) ]
+      ]
 
 pub one_list : OneListOfGroups
 one_list sizes target groups others here there =

@@ -3,9 +3,9 @@ use Rattle.std.proofs.Common.{◌≡◌, refl, sym, ◌∙◌, subst, false, Lis
 use Rattle.aqe_base.specs.declared.join_kind.JoinKind.{JoinKind}
 use Rattle.aqe_logical.specs.declared.plan.Logical.{Logical}
 use Rattle.aqe_settings.specs.declared.entry.Value.{Value}
-use Rattle.aqe_settings.specs.declared.key.SettingKey.TheVariants as key
-use Rattle.aqe_settings.specs.Values.{value_of, is_on, partitions}
+use Rattle.aqe_settings.specs.Values.{partitions}
 use Rattle.aqe_coalesce.proofs.Unique.{one_list}
+use Rattle.aqe_skew.proofs.OnePairing.{one}
 use Rattle.aqe_physical.specs.declared.sizes.Estimate.{Estimate}
 use Rattle.aqe_physical.specs.declared.sizes.StageSize.{StageSize}
 use Rattle.aqe_physical.specs.declared.target.JoinWay.{JoinWay}
@@ -26,18 +26,6 @@ use Rattle.aqe_fitting.proofs.OneReads.{bodies_same, settled}
 -- sizes choose one way
 one_way : (estimates : List Estimate) (sizes : List StageSize) (values : List Value) → ChoosesOne (ways_by_sizes estimates sizes values)
 one_way estimates sizes values kind x y how other e f = e ∙ sym f
-
--- no settings that are in force split skewed partitions
-no_skew : (values : List Value) → is_on (value_of key.Skew (in_force values)) ≡ false
-no_skew [] = refl
-no_skew (a ∷ []) = refl
-no_skew (a ∷ b ∷ []) = refl
-no_skew (a ∷ b ∷ c ∷ []) = refl
-no_skew (a ∷ b ∷ c ∷ d ∷ []) = refl
-no_skew (a ∷ b ∷ c ∷ d ∷ e ∷ []) = refl
-no_skew (a ∷ b ∷ c ∷ d ∷ e ∷ f ∷ []) = refl
-no_skew (a ∷ b ∷ c ∷ d ∷ e ∷ f ∷ g ∷ []) = refl
-no_skew (a ∷ b ∷ c ∷ d ∷ e ∷ f ∷ g ∷ h ∷ rest) = refl
 
 -- the place of all plans
 pub one_place : PlannedAtOnePlace
@@ -65,4 +53,4 @@ pub one_plan : OnePlanFits
 one_plan plan other x estimates sizes settings h g =
     let alike = (same (ways_by_sizes estimates sizes (in_force settings)) (partitions settings) (files_of estimates)
         (one_way estimates sizes (in_force settings)) x plan other h.0.0 g.0.0 h.0.1 g.0.1).0 in
-    settled plan other 1 (bodies_same (facts_of x sizes settings) one_list (no_skew settings) plan other alike h.1 g.1) h.2 g.2
+    settled plan other 1 (bodies_same (facts_of x sizes settings) one_list one plan other alike h.1 g.1) h.2 g.2

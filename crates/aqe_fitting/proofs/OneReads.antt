@@ -3,8 +3,7 @@ use Rattle.std.proofs.Common.{◌≡◌, refl, sym, ◌∙◌, ap, subst, ℕ, B
 use Rattle.aqe_base.specs.declared.join_kind.JoinKind.{JoinKind}
 use Rattle.aqe_base.specs.declared.join_kind.Side.TheVariants.{Left, Right}
 use Rattle.aqe_join_rows.specs.declared.join_keys.JoinKeys.{JoinKeys}
-use Rattle.aqe_settings.specs.declared.key.SettingKey.TheVariants as key
-use Rattle.aqe_settings.specs.Values.{value_of, is_on}
+use Rattle.aqe_skew.specs.Laws.{OneListOfPairs}
 use Rattle.aqe_coalesce.specs.Laws.{OneListOfGroups}
 use Rattle.aqe_physical.specs.declared.target.JoinWay.{JoinWay}
 use Rattle.aqe_physical.specs.declared.target.JoinWay.TheVariants as way
@@ -41,11 +40,11 @@ join_same how kind keys v w p q p2 q2 h g s t x y =
     let right = t (parts_beside p) (parts_beside p2) (λ e. beside_same p p2 (parts_beside q) (parts_beside q2) (is_nothing p) refl h s x.0 y.0) x.1 y.1 in
     λ i. matched how kind keys v w (left i) (right i)
 
-module _ (facts : Facts) (one : OneListOfGroups) (even : is_on (value_of key.Skew facts.settings) ≡ false) where
+module _ (facts : Facts) (one : OneListOfGroups) (pairs_one : OneListOfPairs) where
   body_same : (p q : Plan) → Alike p q → ((c : Cut) → ReadsFit facts c p → ReadsFit facts c q → Settled p q) → BodyFits facts p → BodyFits facts q → Settled p q
   body_same p q h ih x y =
       let cut : CutOf facts (strand p) y.0 = subst (λ (s : Strand). CutOf facts s y.0) (sym (alike_strand p q h)) y.1 in
-      let e : y.0 ≡ x.0 = one_cut facts (strand p) one even y.0 x.0 cut x.1 in
+      let e : y.0 ≡ x.0 = one_cut facts (strand p) one pairs_one y.0 x.0 cut x.1 in
       ih x.0 x.2 (subst (λ (c : Cut). ReadsFit facts c q) e y.2)
 
   pub reads_same : (p q : Plan) → Alike p q → (cut : Cut) → ReadsFit facts cut p → ReadsFit facts cut q → Settled p q

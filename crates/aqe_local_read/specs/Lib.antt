@@ -1,1 +1,2 @@
 pub mod LocalRects
+pub mod Laws

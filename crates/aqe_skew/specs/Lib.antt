@@ -1,3 +1,4 @@
 pub mod Skewed
 pub mod Splits
 pub mod Paired
+pub mod Laws
