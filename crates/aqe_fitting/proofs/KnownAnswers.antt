@@ -1,5 +1,5 @@
 -- Small plans for each row of the table of planning, worked out by hand from the rules: a check of the definitions.
-use Rattle.std.proofs.Common.{◌≡◌, refl, ℕ, List, [], ◌∷◌, Some, None, true, false, pos}
+use Rattle.std.proofs.Common.{◌≡◌, refl, sym, ◌∙◌, ℕ, List, [], ◌∷◌, Some, None, true, false, pos}
 use Rattle.aqe_base.specs.declared.join_kind.JoinKind.{JoinKind}
 use Rattle.aqe_base.specs.declared.join_kind.JoinKind.TheVariants.{Inner, LeftOuter, RightOuter, FullOuter, LeftSemi}
 use Rattle.aqe_base.specs.declared.join_kind.Side.TheVariants.{Right}
@@ -34,6 +34,8 @@ use Rattle.aqe_physical.specs.declared.sizes.StageSize.{StageSize}
 use Rattle.aqe_fitting.specs.Strands.{relies_on_place, strand}
 use Rattle.aqe_fitting.specs.ReadsFit.{uncut, stays_uncut, Facts, may_cut, is_local, coalesces, strand_sizes, strand_target}
 use Rattle.aqe_fitting.specs.Fits.{Fits}
+use Rattle.aqe_fitting.proofs.Alike.{Alike, finals}
+use Rattle.aqe_fitting.proofs.OneShape.{same}
 
 -- a table with two columns and two files; an exchange has four parts; every join is merged
 abbrev field : Field
@@ -265,3 +267,16 @@ not_all_made = refl
 
 beside_an_exchange : may_cut facts (strand (matched way.SortMerge Inner equal_keys 2 2 (plan.Read (id 3) 1 3 []) (moved target.Single plan.OneRow))) ≡ false
 beside_an_exchange = refl
+
+-- a second exchange, where the rows stand by the grouping keys already, is planned nowhere
+not_alike : Alike (grouped first count plan_once) (moved (target.Hash first 4) (grouped first count plan_once)) → ⊥
+not_alike h = elim h [ ]
+
+not_finished : Alike (finished 1 count (grouped first count plan_once)) (finished 1 count (moved (target.Hash first 4) (grouped first count plan_once))) → ⊥
+not_finished (finals _ _ _ _ h) = not_alike h
+
+no_second_exchange : (w : Placement) →
+    IsPlan (aggregated first count (field ∷ field ∷ []) grouped_once) (finished 1 count (moved (target.Hash first 4) (grouped first count plan_once))) w → ⊥
+no_second_exchange w h = not_finished (same merges 4 files (λ kind x y how other e f. e ∙ sym f)
+    (aggregated first count (field ∷ field ∷ []) grouped_once) (finished 1 count (grouped first count plan_once))
+    (finished 1 count (moved (target.Hash first 4) (grouped first count plan_once))) (place.Hash first) w grouped_by_the_same h).0

@@ -1,5 +1,5 @@
 -- At most one plan fits.
-use Rattle.std.proofs.Common.{◌≡◌, refl, sym, ◌∙◌, subst, false, List, [], ◌∷◌}
+use Rattle.std.proofs.Common.{◌≡◌, refl, sym, ◌∙◌, subst, List}
 use Rattle.aqe_base.specs.declared.join_kind.JoinKind.{JoinKind}
 use Rattle.aqe_logical.specs.declared.plan.Logical.{Logical}
 use Rattle.aqe_settings.specs.declared.entry.Value.{Value}
