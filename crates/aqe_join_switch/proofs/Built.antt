@@ -1,13 +1,12 @@
 -- A side that is chosen may be built.
-use Rattle.std.proofs.Common.{◌≡◌, ℕ, Bool, true, false, ◌&&◌, cond, Option, Some, None, refl, ap, sym, ◌∙◌, arith, rules}
+use Rattle.std.proofs.Common.{◌≡◌, ℕ, Bool, true, false, ◌&&◌, Option, Some, None, refl, rules}
 use Rattle.aqe_base.specs.declared.join_kind.JoinKind.{JoinKind}
 use Rattle.aqe_base.specs.declared.join_kind.Side.{Side}
 use Rattle.aqe_base.specs.declared.join_kind.Side.TheVariants.{Left, Right}
 use Rattle.aqe_base.specs.Joins.{may_build}
-use Rattle.aqe_join_switch.specs.declared.sizes.JoinRule.{JoinRule}
 use Rattle.aqe_join_switch.specs.declared.sizes.JoinChoice.{JoinChoice}
-use Rattle.aqe_join_switch.specs.declared.sizes.JoinChoice.TheVariants.{Broadcast, ShuffledHash, SortMerge}
-use Rattle.aqe_join_switch.specs.Choice.{SideData, known, right_first, smaller, in_case, held_side, small_side, hashed_side, choice}
+use Rattle.aqe_join_switch.specs.declared.sizes.JoinChoice.TheVariants.{Broadcast, ShuffledHash}
+use Rattle.aqe_join_switch.specs.Choice.{SideData, known, right_first, smaller, in_case, held_side, small_side, hashed_side}
 use Rattle.aqe_join_switch.specs.Laws.{BuildsWhatMayBeBuilt, ChosenSidesMayBeBuilt}
 
 -- a side, if there is one, has what is said of it
@@ -50,7 +49,7 @@ pub built : ChosenSidesMayBeBuilt
 built kind left right rule =
     in_case_has kind (held_side kind left right) _ (first_has (λ s. may_build kind s ≡ true) _ _ (known_first (may_build kind Left) _ left) (known_first (may_build kind Right) _ right))
     (in_case_has kind (small_side kind left right rule) _
-        (smaller_has (λ s. may_build kind s ≡ true) _ _ _ _ (known_first (may_build kind Left) _ left) (known_first (may_build kind Right) _ right))
+    (smaller_has (λ s. may_build kind s ≡ true) _ _ _ _ (known_first (may_build kind Left) _ left) (known_first (may_build kind Right) _ right))
     (hashed_has kind (hashed_side kind left right rule) _
-        (smaller_has (λ s. may_build kind s ≡ true) _ _ _ _ (known_first (may_build kind Left) _ left) (known_first (may_build kind Right) _ right))
+    (smaller_has (λ s. may_build kind s ≡ true) _ _ _ _ (known_first (may_build kind Left) _ left) (known_first (may_build kind Right) _ right))
     tt))

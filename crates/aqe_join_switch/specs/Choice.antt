@@ -1,5 +1,5 @@
 -- The choice of a join's way: which side is small, which may be hashed, and the first case that holds.
-use Rattle.std.specs.Prelude.{ℕ, ◌*◌, ℤ, pos, Bool, true, false, ◌&&◌, not, cond, List, length, count_by, nat_lt, nat_le, int_le, Option, Some, None}
+use Rattle.std.specs.Prelude.{ℕ, ◌*◌, pos, Bool, true, false, ◌&&◌, not, cond, List, length, count_by, nat_lt, nat_le, int_le, Option, Some, None}
 use Rattle.std.specs.List.{list_all}
 use Rattle.aqe_base.specs.declared.join_kind.JoinKind.{JoinKind}
 use Rattle.aqe_base.specs.declared.join_kind.Side.{Side}
@@ -95,12 +95,12 @@ held_side kind left right = right_first (known (is_held kind Left) left) (known 
 abbrev pub small_side : JoinKind → Option SideData → Option SideData → JoinRule → Option Side
 small_side kind left right rule =
     smaller (known (λ sizes. fits_broadcast kind Left sizes rule) left) (known (λ sizes. fits_broadcast kind Right sizes rule) right)
-        (total_of left) (total_of right)
+    (total_of left) (total_of right)
 
 abbrev pub hashed_side : JoinKind → Option SideData → Option SideData → JoinRule → Option Side
 hashed_side kind left right rule =
     smaller (known (λ sizes. prefers_hash kind Left sizes rule) left) (known (λ sizes. prefers_hash kind Right sizes rule) right)
-        (total_of left) (total_of right)
+    (total_of left) (total_of right)
 
 -- The choice, the first case that holds: the broadcast of a side that is held so; the broadcast of a side that is small;
 -- a hash join of a side that may be hashed; else a sort-merge join.

@@ -7,7 +7,6 @@ use Rattle.aqe_join_switch.specs.declared.sizes.JoinChoice.{JoinChoice}
 use Rattle.aqe_join_switch.specs.declared.sizes.JoinChoice.TheVariants.{Broadcast, ShuffledHash, SortMerge}
 use Rattle.aqe_join_switch.specs.Choice.{SideData, choice}
 
-
 -- the side that a choice builds may be built
 abbrev pub BuildsWhatMayBeBuilt : JoinKind → JoinChoice → Type 0
 BuildsWhatMayBeBuilt kind (Broadcast side) = may_build kind side ≡ true

@@ -3,8 +3,20 @@
 ghost use Rattle.std.specs.Prelude.{◌≡◌, int_le, nat_le, option_map, pos};
 ghost use Rattle.std.specs.List.{list_all};
 ghost use Rattle.aqe_join_switch.specs.Choice.{
-    choice, fits_broadcast, is_hashable, is_held, is_small, many_empty, prefers_hash,
-    held_side, hashed_side, right_first, seen, small_side, smaller, total_of,
+  choice,
+  fits_broadcast,
+  is_hashable,
+  is_held,
+  is_small,
+  many_empty,
+  prefers_hash,
+  held_side,
+  hashed_side,
+  right_first,
+  seen,
+  small_side,
+  smaller,
+  total_of,
 };
 
 use crate::{JoinChoice, JoinRule, SideSizes, SizeSource};

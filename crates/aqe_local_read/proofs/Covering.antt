@@ -1,13 +1,12 @@
 -- The rectangles of a local read cover.
-use Rattle.std.proofs.Common.{◌≡◌, ℕ, zero, suc, ◌+◌, ◌<◌, ◌≤◌, Bool, true, false, ◌&&◌, cond, List, [], ◌∷◌, ◌++◌, map, refl, ap, sym, subst, ◌∙◌, arith}
+use Rattle.std.proofs.Common.{◌≡◌, ℕ, zero, suc, ◌+◌, ◌≤◌, Bool, true, false, ◌&&◌, cond, List, [], ◌∷◌, map, refl, ap, sym, subst, ◌∙◌, arith}
 use Rattle.std.specs.Prelude.{count_by, sum_by, flat_map, nat_lt, nat_le}
 use Rattle.std.specs.List.{range_with_len}
 use Rattle.std.proofs.lemmas.Bool.Decides.{nat_tests}
 use Rattle.std.proofs.lemmas.List.Sums.{sum_by-cons, sum_by-append}
-use Rattle.aqe_base.specs.declared.cells.Rect.{Rect}
-use Rattle.aqe_rects.specs.Rectangles.{has_cell, is_cell, Covers}
-use Rattle.aqe_local_read.specs.LocalRects.{run, runs, run_start, rect_of_maps, rect_of_map, rects_of_map, cuts_of_map, local_rects}
-use Rattle.aqe_local_read.specs.Laws.{AreEven, LocalRectanglesCover}
+use Rattle.aqe_rects.specs.Rectangles.{has_cell, is_cell}
+use Rattle.aqe_local_read.specs.LocalRects.{run, runs, run_start, rect_of_maps, rect_of_map, rects_of_map, cuts_of_map}
+use Rattle.aqe_local_read.specs.Laws.{LocalRectanglesCover}
 use Rattle.aqe_local_read.proofs.Runs.{even}
 
 -- whether x stands from a up to b, and something else holds
@@ -69,6 +68,7 @@ module _ (m r : ℕ) where
     where
       none_more : 0 + k ≡ k
       none_more = omega arith
+
       within : (maps reducers : ℕ) → between m 0 maps (nat_le 0 r && nat_lt r reducers) ≡ cond (is_cell maps reducers m r) 1 0
       within maps reducers = grind (arith, nat_tests)
 
@@ -85,13 +85,16 @@ module _ (m r : ℕ) where
     where
       none_more : 0 + k ≡ k
       none_more = omega arith
+
       swapped : (b c : Bool) → cond {A = ℕ} (b && c) 1 0 ≡ cond (c && b) 1 0
       swapped true true = refl
       swapped true false = refl
       swapped false true = refl
       swapped false false = refl
+
       turn : (i : ℕ) → cond {A = ℕ} (has_cell m r (rect_of_map a (run reducers k i))) 1 0 ≡ between r (run_start reducers k i) (run_start reducers k (i + 1)) (nat_le a m && nat_lt m (a + 1))
       turn i = swapped (nat_le a m && nat_lt m (a + 1)) (nat_le (run_start reducers k i) r && nat_lt r (run_start reducers k (i + 1)))
+
       within : between r 0 reducers (nat_le a m && nat_lt m (a + 1)) ≡ between m a (a + 1) (nat_lt r reducers)
       within = grind (arith, nat_tests)
 

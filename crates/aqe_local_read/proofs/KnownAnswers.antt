@@ -1,5 +1,5 @@
 -- Answers that were worked out by hand from the rules: a check of the definitions.
-use Rattle.std.proofs.Common.{◌≡◌, ℕ, List, [], ◌∷◌, refl}
+use Rattle.std.proofs.Common.{◌≡◌, ℕ, [], ◌∷◌, refl}
 use Rattle.aqe_base.specs.declared.cells.Rect.{Rect}
 use Rattle.aqe_local_read.specs.LocalRects.{runs, local_rects}
 

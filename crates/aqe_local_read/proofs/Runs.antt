@@ -1,9 +1,9 @@
 -- Where runs begin.
-use Rattle.std.proofs.Common.{◌≡◌, ℕ, ◌+◌, ◌-◌, ◌*◌, ◌/◌, ◌%◌, ◌<◌, ◌≤◌, refl, ap, sym, ◌∙◌, arith, inl, inr}
+use Rattle.std.proofs.Common.{◌≡◌, ℕ, ◌+◌, ◌*◌, ◌/◌, ◌%◌, ◌<◌, ◌≤◌, arith}
 use Rattle.std.specs.Prelude.{min}
 use Rattle.std.proofs.Math.Nat.{div-add-mod, mul-le-mul_right, mod-lt}
 use Rattle.aqe_local_read.specs.LocalRects.{run_start}
-use Rattle.aqe_local_read.specs.Laws.{run_length, AreEven, RunsAreEven}
+use Rattle.aqe_local_read.specs.Laws.{RunsAreEven}
 
 pub product_le : (n k i : ℕ) → i ≤ k → i * (n / k) ≤ n
 product_le n k i le =

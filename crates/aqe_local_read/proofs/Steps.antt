@@ -38,5 +38,6 @@ map_more reducers k m rects rects' before push =
     same : (a n : ℕ) → map (λ x. x) (range_with_len a n) ≡ range_with_len a n
     same a zero = refl
     same a (suc n) = ap (λ l. a ∷ l) (same (a + 1) n)
+
     ranges : (n : ℕ) → range_with_len 0 (n + 1) ≡ range_with_len 0 n ++ n ∷ []
     ranges n = sym (same 0 (n + 1)) ∙ (map-range_with_len_more (λ x. x) 0 n n (omega arith) ∙ ap (λ l. l ++ n ∷ []) (same 0 n))

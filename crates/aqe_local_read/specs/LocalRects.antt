@@ -33,5 +33,5 @@ rects_of_map reducers k m = map (rect_of_map m) (runs reducers k)
 abbrev pub local_rects : ℕ → ℕ → ℕ → List Rect
 local_rects maps reducers wanted =
     cond (nat_le wanted maps)
-        (map (rect_of_maps reducers) (runs maps wanted))
-        (flat_map (rects_of_map reducers (cuts_of_map maps reducers wanted)) (range_with_len 0 maps))
+    (map (rect_of_maps reducers) (runs maps wanted))
+    (flat_map (rects_of_map reducers (cuts_of_map maps reducers wanted)) (range_with_len 0 maps))

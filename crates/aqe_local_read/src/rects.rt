@@ -3,7 +3,12 @@
 ghost use Rattle.std.specs.Prelude.{◌+◌, ◌++◌, ◌<◌, ◌≡◌, ◌≤◌, ◌^◌, IfOk, OnOk, flat_map, map};
 ghost use Rattle.std.specs.List.{range_with_len};
 ghost use Rattle.aqe_local_read.specs.LocalRects.{
-    cuts_of_map, local_rects, rect_of_maps, rects_of_map, run_start, runs,
+  cuts_of_map,
+  local_rects,
+  rect_of_maps,
+  rects_of_map,
+  run_start,
+  runs,
 };
 
 use aqe_base::{Memory, Rect, Rects};

@@ -1,6 +1,6 @@
 -- Sorted sizes are the sizes in rising order.
-use Rattle.std.proofs.Common.{◌≡◌, ℕ, zero, suc, ◌+◌, ◌<◌, ◌≤◌, ◌==◌, Bool, true, false, cond, List, [], ◌∷◌, length, get_or, refl, ap, sym, subst, ◌∙◌, arith, inl, inr}
-use Rattle.std.specs.Prelude.{All, sum, sum_by, count_by, nat_le, nat_lt, IsPermutation, IsSorted}
+use Rattle.std.proofs.Common.{◌≡◌, ℕ, suc, ◌+◌, ◌<◌, ◌≤◌, ◌==◌, Bool, true, false, cond, List, [], ◌∷◌, length, get_or, refl, ap, sym, ◌∙◌, arith, inl, inr}
+use Rattle.std.specs.Prelude.{All, sum, sum_by, nat_le, IsPermutation, IsSorted}
 use Rattle.std.specs.Ordering.{nat_cmp}
 use Rattle.std.specs.List.Sorted.{IsNonDecreasing}
 use Rattle.std.proofs.lemmas.Bool.{cases_lt}
@@ -59,10 +59,13 @@ one_rising (x ∷ xs) (y ∷ ys) up_x up_y same =
         let some : times a (a ∷ xs') ≡ cond (a == a) 1 0 + times a xs' = times_cons a a xs' in
         let e : times a (a ∷ xs') ≡ times a (b ∷ bs) = equal a in
         grind (arith, nat_tests, none, some, e)
+
     as_large : (a b : ℕ) → (a < b → ⊥) → (b < a → ⊥) → a ≡ b
     as_large a b not_less not_more = elim (cases_lt a b) [
-        inl less ↦ absurd (not_less less)
-      | inr le ↦ elim (cases_lt b a) [ inl more ↦ absurd (not_more more) | inr ge ↦ omega (arith, le, ge) ] ]
+      | inl less ↦ absurd (not_less less)
+      | inr le ↦ elim (cases_lt b a) [ inl more ↦ absurd (not_more more) | inr ge ↦ omega (arith, le, ge) ]
+    ]
+
     behind : (v : ℕ) → x ≡ y → times v xs ≡ times v ys
     behind v first =
         let all : times v (x ∷ xs) ≡ times v (y ∷ ys) = same v in
@@ -122,4 +125,4 @@ rises_of (x ∷ xs) up = (λ k d lt. up 0 (suc k) d (omega arith) (omega (arith,
 pub sorted_is_rising : (xs ys : List ℕ) → IsPermutation xs ys → IsSorted nat_cmp ys → ys ≡ rising xs
 sorted_is_rising xs ys moved sorted =
     one_rising ys (rising xs) (rises_of ys (IsNonDecreasingBy-from_sort (λ x. x) ys sorted)) (rising_rises xs)
-        (λ v. sum_by-IsPermutation (λ x. cond (x == v) 1 0) xs ys moved ∙ sym (rising_times v xs))
+    (λ v. sum_by-IsPermutation (λ x. cond (x == v) 1 0) xs ys moved ∙ sym (rising_times v xs))

@@ -2,7 +2,7 @@
 use Rattle.std.proofs.Common.{◌≡◌, ℕ, ◌+◌, ◌<◌, ◌≤◌, Bool, true, false, cond, not, List, [], ◌∷◌, ◌++◌, length, take, get_or, refl, ap, sym, ◌∙◌, arith, length-append, length-take}
 use Rattle.std.specs.Prelude.{sum, filter, min}
 use Rattle.std.proofs.lemmas.List.{take_more}
-use Rattle.std.proofs.lemmas.List.Sums.{sum_by-append, sum_by-take-le, sum_by_more, get_or-le-sum_by}
+use Rattle.std.proofs.lemmas.List.Sums.{sum_by-append, sum_by-take-le}
 use Rattle.std.proofs.lemmas.List.Elements.{filter-append}
 use Rattle.std.proofs.lemmas.List.Filters.{length-filter_both, sum_by-filter_both}
 use Rattle.aqe_skew.specs.declared.rule.SkewRule.{SkewRule}
@@ -33,25 +33,30 @@ even_more median rule sizes i total count total' count' lt before more one_more 
   where
     x : ℕ
     x = get_or sizes i 0
+
     split_here : evens median rule (take (i + 1) sizes) ≡ evens median rule (take i sizes) ++ evens median rule (get_or sizes i 0 ∷ [])
     split_here = ap (evens median rule) (take_more sizes i 0 lt) ∙ filter-append (λ size. not (is_skewed size median rule)) (take i sizes) (get_or sizes i 0 ∷ [])
+
     sum_one : (y : ℕ) (b : Bool) → sum (cond (not b) (y ∷ []) []) ≡ cond b 0 y
     sum_one y true = refl
     sum_one y false = omega arith
+
     count_one : (y : ℕ) (b : Bool) → length (cond (not b) (y ∷ []) []) ≡ cond b 0 1
     count_one y true = refl
     count_one y false = refl
+
     total_now : total' ≡ sum (evens median rule (take (i + 1) sizes))
     total_now =
         let e : sum (evens median rule (take i sizes) ++ evens median rule (get_or sizes i 0 ∷ [])) ≡ sum (evens median rule (take i sizes)) + sum (evens median rule (get_or sizes i 0 ∷ [])) =
-                sum_by-append (λ y. y) (evens median rule (take i sizes)) (evens median rule (get_or sizes i 0 ∷ [])) in
+        sum_by-append (λ y. y) (evens median rule (take i sizes)) (evens median rule (get_or sizes i 0 ∷ [])) in
         let one : sum (evens median rule (get_or sizes i 0 ∷ [])) ≡ cond (is_skewed (get_or sizes i 0) median rule) 0 (get_or sizes i 0) = sum_one (get_or sizes i 0) (is_skewed (get_or sizes i 0) median rule) in
         more ∙ (ap (λ t. t + cond (is_skewed (get_or sizes i 0) median rule) 0 (get_or sizes i 0)) before.total_is
         ∙ (ap (λ t. sum (evens median rule (take i sizes)) + t) (sym one) ∙ (sym e ∙ ap (λ l. sum l) (sym split_here))))
+
     count_now : count' ≡ length (evens median rule (take (i + 1) sizes))
     count_now =
         let e : length (evens median rule (take i sizes) ++ evens median rule (get_or sizes i 0 ∷ [])) ≡ length (evens median rule (take i sizes)) + length (evens median rule (get_or sizes i 0 ∷ [])) =
-                length-append (evens median rule (take i sizes)) (evens median rule (get_or sizes i 0 ∷ [])) in
+        length-append (evens median rule (take i sizes)) (evens median rule (get_or sizes i 0 ∷ [])) in
         let one : length (evens median rule (get_or sizes i 0 ∷ [])) ≡ cond (is_skewed (get_or sizes i 0) median rule) 0 1 = count_one (get_or sizes i 0) (is_skewed (get_or sizes i 0) median rule) in
         one_more ∙ (ap (λ t. t + cond (is_skewed (get_or sizes i 0) median rule) 0 1) before.count_is
         ∙ (ap (λ t. length (evens median rule (take i sizes)) + t) (sym one) ∙ (sym e ∙ ap (λ l. length l) (sym split_here))))

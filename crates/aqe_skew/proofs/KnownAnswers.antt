@@ -1,11 +1,11 @@
 -- Answers that were worked out by hand from the rules: a check of the definitions.
-use Rattle.std.proofs.Common.{◌≡◌, ℕ, ◌+◌, true, false, List, [], ◌∷◌, map, refl}
+use Rattle.std.proofs.Common.{◌≡◌, ℕ, true, false, List, [], ◌∷◌, map, refl}
 use Rattle.aqe_skew.specs.declared.rule.SkewRule.{SkewRule}
 use Rattle.aqe_skew.specs.Skewed.{median, is_skewed, even_sizes, split_target}
-use Rattle.aqe_skew.specs.Splits.{starts_of, parts_of, Split}
+use Rattle.aqe_skew.specs.Splits.{starts_of, parts_of}
 use Rattle.aqe_base.specs.declared.cells.Rect.{Rect}
 use Rattle.aqe_base.specs.declared.join_kind.JoinKind.TheVariants as kind
-use Rattle.aqe_base.specs.declared.join_kind.Side.TheVariants.{Left, Right}
+use Rattle.aqe_base.specs.declared.join_kind.Side.TheVariants.{Right}
 use Rattle.aqe_skew.specs.Paired.{SideCells, map_sizes, partition_sizes, both_sizes, may_be_split, rects_at, all_pairs, one_by_one, group_pair}
 
 abbrev rule : ℕ → ℕ → SkewRule

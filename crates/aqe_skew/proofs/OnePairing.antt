@@ -1,17 +1,17 @@
 -- The pairs of two sides are determined.
-use Rattle.std.proofs.Common.{◌≡◌, ℕ, ◌+◌, ◌<◌, ◌≤◌, ◌⊎◌, Bool, true, false, List, [], ◌∷◌, ◌++◌, map, length, Option, Some, None, refl, ap, sym, subst, ◌∙◌, arith, inl, inr}
+use Rattle.std.proofs.Common.{◌≡◌, ℕ, ◌+◌, ◌<◌, ◌≤◌, ◌⊎◌, Bool, true, false, List, [], ◌∷◌, ◌++◌, map, Option, Some, None, refl, ap, sym, subst, ◌∙◌, arith, inl, inr}
 use Rattle.std.specs.Bool.{MatchBool}
 use Rattle.std.proofs.lemmas.Bool.{cases_lt}
 use Rattle.aqe_base.specs.declared.join_kind.JoinKind.{JoinKind}
 use Rattle.aqe_base.specs.declared.join_kind.Side.{Side}
 use Rattle.aqe_base.specs.declared.join_kind.Side.TheVariants.{Left, Right}
-use Rattle.aqe_coalesce.specs.Coalesced.{Group, Coalesced}
+use Rattle.aqe_coalesce.specs.Coalesced.{Group}
 use Rattle.aqe_coalesce.proofs.Unique.{one_list}
 use Rattle.aqe_rects.specs.Pairs.{RectPair}
 use Rattle.aqe_skew.specs.declared.rule.SkewRule.{SkewRule}
 use Rattle.aqe_skew.specs.Splits.{Split, starts_of, parts_of}
 use Rattle.aqe_skew.specs.Skewed.{split_target}
-use Rattle.aqe_skew.specs.Paired.{SideCells, map_sizes, partition_sizes, both_sizes, may_be_split, PartsAt, PartsOfBoth, are_split, IsSplitAt, IsWholeAt, Grouped, all_pairs, rects_at, group_pair, PairsFrom, at_end, in_parts, in_groups, PairedWhereSplit}
+use Rattle.aqe_skew.specs.Paired.{SideCells, map_sizes, partition_sizes, both_sizes, may_be_split, PartsAt, PartsOfBoth, are_split, IsSplitAt, IsWholeAt, Grouped, all_pairs, rects_at, group_pair, PairsFrom, at_end, in_parts, in_groups}
 use Rattle.aqe_skew.specs.Laws.{OneListOfPairs}
 
 -- a partition is split in one way
@@ -49,13 +49,15 @@ module _ (kind : JoinKind) (left right : SideCells) (rule : SkewRule) where
     not_longer : (a m n : ℕ) → (a + m ≡ left.reducers) ⊎ IsSplitAt kind left right rule (a + m) → a + n ≤ left.reducers
         → ((r : ℕ) → a ≤ r → r < a + n → IsWholeAt kind left right rule r) → m < n → ⊥
     not_longer a m n ends within whole shorter = elim ends [
-        inl over ↦ omega (arith, over, within, shorter)
-      | inr split ↦ split_not_whole (a + m) split (whole (a + m) (omega arith) (omega (arith, shorter))) ]
+      | inl over ↦ omega (arith, over, within, shorter)
+      | inr split ↦ split_not_whole (a + m) split (whole (a + m) (omega arith) (omega (arith, shorter)))
+    ]
 
     as_long : (m n : ℕ) → (m < n → ⊥) → (n < m → ⊥) → m ≡ n
     as_long m n not_less not_more = elim (cases_lt m n) [
-        inl less ↦ absurd (not_less less)
-      | inr le ↦ elim (cases_lt n m) [ inl more ↦ absurd (not_more more) | inr ge ↦ omega (arith, le, ge) ] ]
+      | inl less ↦ absurd (not_less less)
+      | inr le ↦ elim (cases_lt n m) [ inl more ↦ absurd (not_more more) | inr ge ↦ omega (arith, le, ge) ]
+    ]
 
     one_from : (a b : ℕ) (pairs others : List RectPair) → a ≡ b → PairsFrom kind left right rule target a pairs → PairsFrom kind left right rule target b others → pairs ≡ others
     one_from a b pairs others same (at_end end none) (at_end end' none') = none ∙ sym none'
@@ -75,13 +77,13 @@ module _ (kind : JoinKind) (left right : SideCells) (rule : SkewRule) where
         absurd (split_not_whole b (lefts, rights, parts, split) (whole b (omega (arith, same)) (omega (arith, same, some))))
     one_from a b pairs others same (in_groups n groups rest some within whole ends grouped is from) (in_groups n' groups' rest' some' within' whole' ends' grouped' is' from') =
         let there : (a + n' ≡ left.reducers) ⊎ IsSplitAt kind left right rule (a + n') =
-            subst (λ c. (c + n' ≡ left.reducers) ⊎ IsSplitAt kind left right rule (c + n')) (sym same) ends' in
+        subst (λ c. (c + n' ≡ left.reducers) ⊎ IsSplitAt kind left right rule (c + n')) (sym same) ends' in
         let not_less : n < n' → ⊥ = not_longer a n n' ends (omega (arith, within', same)) (λ r le lt. whole' r (omega (arith, le, same)) (omega (arith, lt, same))) in
         let not_more : n' < n → ⊥ = not_longer a n' n there within whole in
         let long : n ≡ n' = as_long n n' not_less not_more in
         let gathered : Grouped target (both_sizes kind left right rule a n) groups' =
-            subst (λ c. Grouped target (both_sizes kind left right rule a c) groups') (sym long)
-                (subst (λ c. Grouped target (both_sizes kind left right rule c n') groups') (sym same) grouped') in
+        subst (λ c. Grouped target (both_sizes kind left right rule a c) groups') (sym long)
+        (subst (λ c. Grouped target (both_sizes kind left right rule c n') groups') (sym same) grouped') in
         let g : groups ≡ groups' = one_grouping target (both_sizes kind left right rule a n) groups groups' grouped gathered in
         is ∙ ((λ i. map (group_pair left.maps right.maps (same i)) (g i) ++ one_from (a + n) (b + n') rest rest' (λ j. same j + long j) from from' i)
         ∙ sym is')

@@ -52,8 +52,8 @@ rects_at maps r (start ∷ rest) = rects_from maps r start rest
 abbrev pub PartsAt : JoinKind → Side → SideCells → SkewRule → ℕ → List ℕ → Type 0
 PartsAt kind side cells rule r starts =
     MatchBool (may_be_split kind side cells rule r)
-        (Split (map_sizes cells r) (split_target (partition_sizes cells) rule) starts)
-        (starts ≡ 0 ∷ [])
+    (Split (map_sizes cells r) (split_target (partition_sizes cells) rule) starts)
+    (starts ≡ 0 ∷ [])
 
 -- one part is no split
 abbrev pub are_split : List ℕ → List ℕ → Bool

@@ -1,5 +1,5 @@
 -- Which partitions are skewed, and the size to which they are cut.
-use Rattle.std.specs.Prelude.{ℕ, zero, suc, ◌+◌, ◌-◌, ◌*◌, ◌/◌, ◌%◌, ◌==◌, max, Bool, ◌&&◌, not, cond, List, [], ◌∷◌, length, sum, filter, nat_lt, nat_le, slice_index}
+use Rattle.std.specs.Prelude.{ℕ, ◌+◌, ◌-◌, ◌*◌, ◌/◌, ◌%◌, ◌==◌, max, Bool, ◌&&◌, not, cond, List, [], ◌∷◌, length, sum, filter, nat_lt, nat_le, slice_index}
 use Rattle.aqe_skew.specs.declared.rule.SkewRule.{SkewRule}
 
 -- sizes in rising order

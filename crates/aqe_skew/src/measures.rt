@@ -3,7 +3,6 @@
 ghost use Rattle.std.specs.Prelude.{◌+◌, ◌<◌, ◌≡◌, ◌≤◌, ◌^◌, IfOk, cond, filter, length, not, sum};
 ghost use Rattle.aqe_skew.specs.Skewed.{average, is_skewed, median, middle, split_target};
 
-
 use crate::SkewRule;
 use aqe_base::Memory;
 use std::alloc::Global;
