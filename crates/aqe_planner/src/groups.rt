@@ -1,0 +1,146 @@
+//! Groups: finished where their rows stand, or behind an exchange that brings equal keys together.
+
+ghost use Rattle.std.specs.Prelude.{◌≡◌, ◌×◌, length, IfOk, ◌++◌};
+ghost use Rattle.aqe_fitting.specs.Placing as spec;
+ghost use Rattle.aqe_fitting.specs.Keys.{columns_from};
+
+use crate::placing::{after_groups, column_at, keeps_groups};
+use crate::standing::{Standing, standing};
+use aqe_base::Memory;
+use aqe_boxes::both;
+use aqe_logical::{AggCalls, Exprs, Placement, copy_calls, copy_exprs};
+use aqe_physical::{Plan, Target};
+use std::alloc::Global;
+
+/// Whether a plan has no rows.
+fn is_nothing(plan: &Plan) -> bool
+    ensures { result ≡ spec.is_nothing plan.now }
+{
+    match plan {
+        Plan::Nothing { .. } => true,
+        _ => false,
+    }
+}
+
+/// Whether groups can be finished where their rows stand: rows with equal keys stand in one part, or there are none.
+fn serves(keys: &Exprs, from: &Standing) -> bool
+    ensures { result ≡ spec.serves (spec.groups_of keys.now) from.now.plan from.now.place }
+{
+    is_nothing(&from.plan) || keeps_groups(keys.slice(), &from.place)
+}
+
+/// Where the groups over a plan stand.
+fn place_of_groups(alloc: Global, keys: &Exprs, from: &Standing) -> Result<Placement, Memory>
+    ensures { IfOk result (λ w. w ≡ spec.place_of_groups keys.now from.now.plan from.now.place) }
+{
+    if is_nothing(&from.plan) {
+        Ok(Placement::Single)
+    } else {
+        after_groups(alloc, keys.slice(), &from.place)
+    }
+}
+
+/// The partial groups of each part of a plan.
+fn partial(alloc: Global, keys: &Exprs, calls: &AggCalls, plan: Plan) -> Result<Plan, Memory>
+    ensures { IfOk result (λ p. p ≡ Plan.PartialAgg keys.now calls.now plan) }
+{
+    let parts = both(copy_exprs(alloc, keys), copy_calls(alloc, calls));
+    let ((keys, calls), plan) = both(parts, Ok(plan))?;
+    Plan::partial(alloc, keys, calls, plan)
+}
+
+/// The groups of each part of partial rows, whose first columns are the keys.
+fn finished(alloc: Global, keys: &Exprs, calls: &AggCalls, plan: Plan) -> Result<Plan, Memory>
+    ensures { IfOk result (λ p. p ≡ Plan.FinalAgg (length keys.now) calls.now plan) }
+{
+    let (calls, plan) = both(copy_calls(alloc, calls), Ok(plan))?;
+    match u32::try_from(keys.len()) {
+        Ok(count) => Plan::last(alloc, count, calls, plan),
+        Err(_) => Err(Memory),
+    }
+}
+
+/// The groups of each part of a plan.
+fn grouped_here(
+    alloc: Global,
+    keys: &Exprs,
+    calls: &AggCalls,
+    plan: Plan,
+) -> Result<Plan, Memory>
+    ensures { IfOk result (λ p. p ≡ Plan.FinalAgg (length keys.now) calls.now (Plan.PartialAgg keys.now calls.now plan)) }
+{
+    let plan = partial(alloc, keys, calls, plan)?;
+    finished(alloc, keys, calls, plan)
+}
+
+/// The groups of a plan whose partial groups are moved.
+fn grouped_behind(
+    alloc: Global,
+    keys: &Exprs,
+    calls: &AggCalls,
+    to: Target,
+    plan: Plan,
+) -> Result<Plan, Memory>
+    ensures { IfOk result (λ p. p ≡ Plan.FinalAgg (length keys.now) calls.now (Plan.Exchange to (Plan.PartialAgg keys.now calls.now plan))) }
+{
+    let (to, plan) = both(Ok(to), partial(alloc, keys, calls, plan))?;
+    let plan = Plan::exchange(alloc, to, plan)?;
+    finished(alloc, keys, calls, plan)
+}
+
+/// The first columns, so many.
+fn first_columns(alloc: Global, count: usize) -> Result<Exprs, Memory>
+    ensures { IfOk result (λ columns. columns ≡ columns_from 0 count) }
+{
+    let mut columns = Exprs::new(alloc);
+    while columns.len() < count {
+        let column = column_at(columns.len())?;
+        columns.push(column)?;
+    }
+    Ok(columns)
+}
+
+/// Where partial groups are moved to: by the hash of their key columns, or to one part without keys.
+fn target(alloc: Global, keys: &Exprs, n: u32) -> Result<Target, Memory>
+    ensures { IfOk result (λ to. to ≡ spec.groups_target n (length keys.now)) }
+{
+    if keys.is_empty() {
+        Ok(Target::Single)
+    } else {
+        let keys = first_columns(alloc, keys.len())?;
+        Ok(Target::Hash { keys, n })
+    }
+}
+
+/// The place that an exchange to this target gives.
+fn place_of(alloc: Global, keys: &Exprs) -> Result<Placement, Memory>
+    ensures { (n : ℕ) → IfOk result (λ w. w ≡ spec.place_of (spec.groups_target n (length keys.now))) }
+{
+    if keys.is_empty() {
+        Ok(Placement::Single)
+    } else {
+        let keys = first_columns(alloc, keys.len())?;
+        Ok(Placement::Hash(keys))
+    }
+}
+
+/// The groups of the rows of a plan.
+pub(crate) fn grouped(
+    alloc: Global,
+    keys: &Exprs,
+    calls: &AggCalls,
+    n: u32,
+    from: Standing,
+) -> Result<Standing, Memory>
+    ensures { (schema : List Field) (x : Query) → Planned ways n files x from.plan from.place →
+        IfOk result (λ s. Planned ways n files (Logical.Aggregate keys.now calls.now schema x) s.plan s.place) }
+{
+    if serves(keys, &from) {
+        let place = place_of_groups(alloc, keys, &from);
+        standing(both(grouped_here(alloc, keys, calls, from.plan), place))
+    } else {
+        let place = place_of(alloc, keys);
+        let (to, plan) = both(target(alloc, keys, n), Ok(from.plan))?;
+        standing(both(grouped_behind(alloc, keys, calls, to, plan), place))
+    }
+}
