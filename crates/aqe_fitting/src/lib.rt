@@ -1,0 +1,2 @@
+//! Which physical plan fits a logical plan.
+#![tactic(auto)]

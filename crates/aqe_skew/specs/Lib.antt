@@ -1,0 +1,3 @@
+pub mod Skewed
+pub mod Splits
+pub mod Paired
