@@ -1,2 +1,3 @@
-pub mod Built
 pub mod Columns
+pub mod Built
+pub mod Ways

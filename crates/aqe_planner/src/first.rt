@@ -1,10 +1,10 @@
 //! The plan of a query by the files of its tables alone.
 
-ghost use Rattle.std.specs.Prelude.{◌≡◌, IfOk};
-ghost use Rattle.aqe_settings.specs.Values.{values_of};
-ghost use Rattle.aqe_settings.specs.Ranges.{InRange};
-ghost use Rattle.aqe_fitting.specs.Fits.{Fits};
-ghost use Rattle.aqe_planner.specs.Built.{IsBuilt, Reaches};
+ghost use Rattle.std.specs.Prelude.{◌≡◌, length, IfOk};
+ghost use Rattle.aqe_settings.specs.Values.{values_of, partitions};
+ghost use Rattle.aqe_fitting.specs.Planning.{Planned};
+ghost use Rattle.aqe_planner.specs.Built.{IsBuilt, Reaches, files_in};
+ghost use Rattle.aqe_planner.specs.Ways.{Ways};
 
 use crate::groups::grouped;
 use crate::standing::{Standing, filtered, projected};

@@ -2,10 +2,15 @@
 
 ghost use Rattle.std.specs.Prelude.{◌≡◌, ◌×◌, length, IfOk, ◌++◌};
 ghost use Rattle.aqe_fitting.specs.Placing as spec;
+ghost use Rattle.std.specs.Prelude.{ℕ, List};
+ghost use Rattle.aqe_values.specs.declared.schema.Field.{Field as FieldData};
+ghost use Rattle.aqe_logical.specs.declared.plan.Logical.{Logical as Query};
 ghost use Rattle.aqe_fitting.specs.Keys.{columns_from};
+ghost use Rattle.aqe_fitting.specs.Planning.{Planned};
+ghost use Rattle.aqe_planner.specs.Ways.{Ways};
 
 use crate::placing::{after_groups, column_at, keeps_groups};
-use crate::standing::{Standing, standing};
+use crate::standing::{Standing, stands};
 use aqe_base::Memory;
 use aqe_boxes::both;
 use aqe_logical::{AggCalls, Exprs, Placement, copy_calls, copy_exprs};
@@ -132,15 +137,15 @@ pub(crate) fn grouped(
     n: u32,
     from: Standing,
 ) -> Result<Standing, Memory>
-    ensures { (schema : List Field) (x : Query) → Planned ways n files x from.plan from.place →
-        IfOk result (λ s. Planned ways n files (Logical.Aggregate keys.now calls.now schema x) s.plan s.place) }
+    ensures { (ways : Ways) (files : ℕ → ℕ) (schema : List FieldData) (x : Query) → Planned ways n files x from.plan from.place →
+        IfOk result (λ s. Planned ways n files (Query.Aggregate keys.now calls.now schema x) s.plan s.place) }
 {
     if serves(keys, &from) {
         let place = place_of_groups(alloc, keys, &from);
-        standing(both(grouped_here(alloc, keys, calls, from.plan), place))
+        stands(both(grouped_here(alloc, keys, calls, from.plan), place))
     } else {
         let place = place_of(alloc, keys);
         let (to, plan) = both(target(alloc, keys, n), Ok(from.plan))?;
-        standing(both(grouped_behind(alloc, keys, calls, to, plan), place))
+        stands(both(grouped_behind(alloc, keys, calls, to, plan), place))
     }
 }

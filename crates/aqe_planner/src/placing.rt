@@ -1,6 +1,8 @@
 //! Where the rows of a plan stand, node by node.
 
-ghost use Rattle.std.specs.Prelude.{◌≡◌, IfOk};
+ghost use Rattle.std.specs.Prelude.{◌≡◌, IfOk, position};
+ghost use Rattle.std.specs.List.{list_all};
+ghost use Rattle.aqe_rules.specs.Equality.{same_expr as same};
 ghost use Rattle.aqe_fitting.specs.Placing as spec;
 ghost use Rattle.aqe_planner.specs.Columns.{found_by, is_among};
 
@@ -11,7 +13,7 @@ use aqe_same::same_expr;
 use std::alloc::Global;
 
 /// What rows are made of, by which their keys are spelled anew.
-#[derive(Clone, Copy)]
+#[derive(Clone, Copy, Drop)]
 pub(crate) enum Remade {
     /// The items of a projection, which keeps plain columns alone.
     Items,
@@ -29,11 +31,18 @@ pub(crate) fn column_at(place: usize) -> Result<Expr, Memory>
     }
 }
 
+/// The first of the items that is this expression.
+fn first_place(items: &[Expr], expr: &Expr) -> Option<usize>
+    ensures { result ≡ position (λ item. same item expr.now) items.now }
+{
+    items.iter().position(|item| same_expr(item, expr))
+}
+
 /// The first column of rows made of these items at which an expression stands.
 fn column_with(items: &[Expr], expr: &Expr) -> Result<Option<Expr>, Memory>
     ensures { IfOk result (λ found. found ≡ spec.column_with items.now expr.now) }
 {
-    match items.iter().position(|item| same_expr(item, expr)) {
+    match first_place(items, expr) {
         Some(place) => {
             let column = column_at(place)?;
             Ok(Some(column))
@@ -155,15 +164,21 @@ fn is_among(keys: &[Expr], expr: &Expr) -> bool
     keys.iter().any(|key| same_expr(key, expr))
 }
 
+/// Whether each expression is one of the keys.
+fn are_among(keys: &[Expr], exprs: &[Expr]) -> bool
+    ensures { result ≡ list_all (is_among keys.now) exprs.now }
+{
+    exprs.iter().all(|expr| is_among(keys, expr))
+}
+
 /// Whether rows with equal keys stand in one part.
+#[tactic(auto, using(crate::proofs::Found::keeps_by_hash))]
 pub(crate) fn keeps_groups(keys: &[Expr], place: &Placement) -> bool
     ensures { result ≡ spec.keeps_groups keys.now place.now }
 {
     match place {
         Placement::Single => true,
-        Placement::Hash(others) => {
-            !keys.is_empty() && others.slice().iter().all(|expr| is_among(keys, expr))
-        }
+        Placement::Hash(others) => !keys.is_empty() && are_among(keys, others.slice()),
         Placement::Any | Placement::Range(_) | Placement::Broadcast => false,
     }
 }

@@ -1,11 +1,7 @@
 //! A plan with the place of its rows, and the nodes that keep rows within their parts.
 
-ghost use Rattle.std.specs.Prelude.{◌≡◌, ◌<◌, ℕ, length, IfOk};
-ghost use Rattle.aqe_base.specs.declared.join_kind.JoinKind.{JoinKind};
-ghost use Rattle.aqe_physical.specs.declared.target.JoinWay.{JoinWay};
-ghost use Rattle.aqe_logical.specs.declared.plan.Logical.{Logical as Query};
-ghost use Rattle.aqe_fitting.specs.Planning.{Planned};
-ghost use Rattle.aqe_planner.specs.Ways.{Ways};
+ghost use Rattle.std.specs.Prelude.{◌≡◌, ◌×◌, Ok, IfOk};
+ghost use Rattle.aqe_fitting.specs.Placing as spec;
 
 use crate::placing::after_project;
 use aqe_base::Memory;
@@ -23,7 +19,7 @@ pub(crate) struct Standing {
 }
 
 /// A plan and its place, where both are there.
-pub(crate) fn standing(parts: Result<(Plan, Placement), Memory>) -> Result<Standing, Memory>
+pub(crate) fn stands(parts: Result<(Plan, Placement), Memory>) -> Result<Standing, Memory>
     ensures { IfOk result (λ s. parts ≡ Ok (s.plan, s.place)) }
 {
     let (plan, place) = parts?;
@@ -37,7 +33,7 @@ pub(crate) fn filtered(alloc: Global, cond: &Expr, from: Standing) -> Result<Sta
     let Standing { plan, place } = from;
     let (cond, plan) = both(copy_expr(alloc, cond), Ok(plan))?;
     let plan = Plan::filter(alloc, cond, plan);
-    standing(both(plan, Ok(place)))
+    stands(both(plan, Ok(place)))
 }
 
 /// Each row replaced by the values of the items.
@@ -46,7 +42,7 @@ pub(crate) fn projected(alloc: Global, items: &Exprs, from: Standing) -> Result<
 {
     let Standing { plan, place } = from;
     let place = after_project(alloc, items.slice(), &place);
-    standing(both(mapped(alloc, items, plan), place))
+    stands(both(mapped(alloc, items, plan), place))
 }
 
 /// The plan of the values of the items over the rows of a plan.
