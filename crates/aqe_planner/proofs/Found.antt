@@ -1,8 +1,8 @@
 -- Keys that are found one by one.
-use Rattle.std.proofs.Common.{rules, arith, ◌≡◌, ◌<◌, refl, Bool, true, false, ℕ, ◌+◌, length, List, [], ◌∷◌, ◌++◌, Option, Some, None, take, drop, get_or, slice_index_or, ◌==◌}
+use Rattle.std.proofs.Common.{ap, sym, rules, arith, ◌≡◌, ◌<◌, refl, Bool, true, false, ℕ, ◌+◌, length, List, [], ◌∷◌, ◌++◌, Option, Some, None, take, drop, get_or, slice_index_or, ◌==◌}
 use Rattle.std.specs.Option.{option_map}
 use Rattle.std.specs.List.{list_all}
-use Rattle.std.proofs.lemmas.List.{take_more, take-append-drop}
+use Rattle.std.proofs.lemmas.List.{take_more, take-append-drop, drop_more}
 use Rattle.aqe_expr.specs.declared.expr.Expr.{Expr}
 use Rattle.aqe_logical.specs.declared.plan.Placement.TheVariants as place
 use Rattle.aqe_fitting.specs.Placing.{with_more, each_found, keeps_groups}
@@ -31,10 +31,16 @@ keeps_by_hash [] others h = cc (h)
 keeps_by_hash (key ∷ keys) others h = refl
 
 -- the keys up to one are found, and so is that one
-pub found_more : {A B : Type 0} (f : A → Option B) (keys : List A) (i : ℕ) (d : A) (made : List B) (y : B) → i < length keys → each_found f (take i keys) ≡ Some made → f (get_or keys i d) ≡ Some y →
-    each_found f (take (i + 1) keys) ≡ Some (made ++ y ∷ [])
-found_more f keys i d made y h e k = rw (take_more keys i d h) (found-push f (take i keys) (get_or keys i d) made y e k)
+pub found_more : {A B : Type 0} (f : A → Option B) (keys : List A) (i : ℕ) (x : A) (made now : List B) (o : Option B) (y : B) → i < length keys →
+    x ≡ get_or keys i x → each_found f (take i keys) ≡ Some made → o ≡ f x → o ≡ Some y → now ≡ made ++ y ∷ [] → each_found f (take (i + 1) keys) ≡ Some now
+found_more f keys i x made now o y h at e found some pushed =
+    rw (take_more keys i x h, ← at, pushed) (found-push f (take i keys) x made y e (sym found ∙ some))
+
+split_at : {A : Type 0} (keys : List A) (i : ℕ) (x : A) → i < length keys → keys ≡ take i keys ++ get_or keys i x ∷ drop (i + 1) keys
+split_at keys i x h = sym (take-append-drop i keys) ∙ ap (λ l. take i keys ++ l) (drop_more keys i x h)
 
 -- one is not found, so not all are
-pub not_found : {A B : Type 0} (f : A → Option B) (keys : List A) (i : ℕ) (d : A) → i < length keys → f (get_or keys i d) ≡ None → each_found f keys ≡ None
-not_found f keys i d h e = ?
+pub not_found : {A B : Type 0} (f : A → Option B) (keys : List A) (i : ℕ) (x : A) (o : Option B) → i < length keys → x ≡ get_or keys i x → o ≡ f x → o ≡ None →
+    None ≡ each_found f keys
+not_found f keys i x o h at found none =
+    sym (ap (each_found f) (split_at keys i x h) ∙ found-none f (take i keys) (drop (i + 1) keys) (get_or keys i x) (ap f (sym at) ∙ sym found ∙ none))

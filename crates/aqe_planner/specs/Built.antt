@@ -1,6 +1,5 @@
 -- What is planned so far, and what the planner has to know.
-use Rattle.std.specs.Prelude.{ℕ, ◌<◌, Bool, true, false, IsTrue, List, All, slice_index_or}
-use Rattle.aqe_physical.specs.declared.sizes.Estimate.{Estimate}
+use Rattle.std.specs.Prelude.{ℕ, ◌<◌, Bool, true, false, IsTrue, List, All}
 use Rattle.aqe_logical.specs.declared.plan.Logical.{Logical, OneRow, Scan, Empty, Held, HeldPartial}
 use Rattle.aqe_logical.specs.Shapes.{filtered, projected, joined, aggregated, united, sorted, limited, sampled}
 use Rattle.aqe_logical.specs.Nodes.{nodes}
@@ -31,7 +30,3 @@ IsReached n node = Unit {0}
 
 abbrev pub Reaches : ℕ → Logical → Type 0
 Reaches n plan = All (IsReached n) (nodes plan)
-
--- the number of files of a table, by its estimate
-abbrev pub files_in : List Estimate → ℕ → ℕ
-files_in estimates table = (slice_index_or estimates table (record { bytes = 0; files = 1 })).files

@@ -1,3 +1,3 @@
 pub mod Columns
 pub mod Built
-pub mod Ways
+pub mod Steps

@@ -1,10 +1,9 @@
 //! The plan of a query by the files of its tables alone.
 
-ghost use Rattle.std.specs.Prelude.{◌≡◌, length, IfOk};
-ghost use Rattle.aqe_settings.specs.Values.{values_of, partitions};
-ghost use Rattle.aqe_fitting.specs.Planning.{Planned};
-ghost use Rattle.aqe_planner.specs.Built.{IsBuilt, Reaches, files_in};
-ghost use Rattle.aqe_planner.specs.Ways.{Ways};
+ghost use Rattle.std.specs.Prelude.{◌≡◌, [], length, IfOk};
+ghost use Rattle.aqe_settings.specs.Values.{values_of};
+ghost use Rattle.aqe_fitting.specs.Fits.{Fits, IsPlanned};
+ghost use Rattle.aqe_planner.specs.Built.{IsBuilt, Reaches};
 
 use crate::groups::grouped;
 use crate::standing::{Standing, filtered, projected};
@@ -14,16 +13,16 @@ use aqe_physical::{Estimates, Plan};
 use aqe_settings::Settings;
 use std::alloc::Global;
 
-/// The plan and the place of the rows of a query. It is built from the leaves, and each exchange has `n` parts.
+/// The plan and the place of the rows of a query, built from the leaves.
 fn planned(
     alloc: Global,
     logical: &Logical,
     estimates: &Estimates,
-    n: u32,
+    settings: &Settings,
 ) -> Result<Standing, Memory>
     requires built { IsBuilt logical.now }
     requires estimates { Reaches (length estimates.now) logical.now }
-    ensures { (ways : Ways) → IfOk result (λ s. Planned ways n (files_in estimates.now) logical.now s.plan s.place) }
+    ensures { IfOk result (λ s. IsPlanned s.plan logical.now estimates.now [] (values_of settings.now) s.place) }
 {
     match logical {
         Logical::OneRow => Ok(Standing {
@@ -38,18 +37,18 @@ fn planned(
             place: Placement::Any,
         }),
         Logical::Filter { cond, child } => {
-            let from = planned(alloc, child.get(), estimates, n)?;
+            let from = planned(alloc, child.get(), estimates, settings)?;
             filtered(alloc, cond, from)
         }
         Logical::Project { items, child, .. } => {
-            let from = planned(alloc, child.get(), estimates, n)?;
+            let from = planned(alloc, child.get(), estimates, settings)?;
             projected(alloc, items, from)
         }
         Logical::Aggregate {
             keys, calls, child, ..
         } => {
-            let from = planned(alloc, child.get(), estimates, n)?;
-            grouped(alloc, keys, calls, n, from)
+            let from = planned(alloc, child.get(), estimates, settings)?;
+            grouped(alloc, keys, calls, settings.exchange_partitions(), from)
         }
         Logical::Join { .. }
         | Logical::Union { .. }
@@ -76,6 +75,6 @@ pub fn first_plan(
     requires estimates { Reaches (length estimates.now) logical.now }
     ensures { IfOk result (λ p. Fits p logical.now estimates.now [] (values_of settings.now)) }
 {
-    let planned = planned(alloc, logical, estimates, settings.exchange_partitions())?;
+    let planned = planned(alloc, logical, estimates, settings)?;
     Ok(planned.plan)
 }

@@ -1,13 +1,9 @@
 //! Groups: finished where their rows stand, or behind an exchange that brings equal keys together.
 
-ghost use Rattle.std.specs.Prelude.{◌≡◌, ◌×◌, length, IfOk, ◌++◌};
+ghost use Rattle.std.specs.Prelude.{◌≡◌, ℕ, length, IfOk};
 ghost use Rattle.aqe_fitting.specs.Placing as spec;
-ghost use Rattle.std.specs.Prelude.{ℕ, List};
-ghost use Rattle.aqe_values.specs.declared.schema.Field.{Field as FieldData};
-ghost use Rattle.aqe_logical.specs.declared.plan.Logical.{Logical as Query};
 ghost use Rattle.aqe_fitting.specs.Keys.{columns_from};
-ghost use Rattle.aqe_fitting.specs.Planning.{Planned};
-ghost use Rattle.aqe_planner.specs.Ways.{Ways};
+ghost use Rattle.aqe_planner.specs.Steps.{groups_here, groups_moved, groups_place, groups_plan};
 
 use crate::placing::{after_groups, column_at, keeps_groups};
 use crate::standing::{Standing, stands};
@@ -72,34 +68,20 @@ fn grouped_here(
     calls: &AggCalls,
     plan: Plan,
 ) -> Result<Plan, Memory>
-    ensures { IfOk result (λ p. p ≡ Plan.FinalAgg (length keys.now) calls.now (Plan.PartialAgg keys.now calls.now plan)) }
+    ensures { IfOk result (λ p. p ≡ groups_here keys.now calls.now plan) }
 {
     let plan = partial(alloc, keys, calls, plan)?;
     finished(alloc, keys, calls, plan)
 }
 
-/// The groups of a plan whose partial groups are moved.
-fn grouped_behind(
-    alloc: Global,
-    keys: &Exprs,
-    calls: &AggCalls,
-    to: Target,
-    plan: Plan,
-) -> Result<Plan, Memory>
-    ensures { IfOk result (λ p. p ≡ Plan.FinalAgg (length keys.now) calls.now (Plan.Exchange to (Plan.PartialAgg keys.now calls.now plan))) }
-{
-    let (to, plan) = both(Ok(to), partial(alloc, keys, calls, plan))?;
-    let plan = Plan::exchange(alloc, to, plan)?;
-    finished(alloc, keys, calls, plan)
-}
 
 /// The first columns, so many.
 fn first_columns(alloc: Global, count: usize) -> Result<Exprs, Memory>
     ensures { IfOk result (λ columns. columns ≡ columns_from 0 count) }
 {
     let mut columns = Exprs::new(alloc);
-    while columns.len() < count {
-        let column = column_at(columns.len())?;
+    'places: for place in 0..count {
+        let column = column_at(place)?;
         columns.push(column)?;
     }
     Ok(columns)
@@ -129,6 +111,22 @@ fn place_of(alloc: Global, keys: &Exprs) -> Result<Placement, Memory>
     }
 }
 
+/// The groups of a plan whose partial groups are moved.
+fn grouped_behind(
+    alloc: Global,
+    keys: &Exprs,
+    calls: &AggCalls,
+    n: u32,
+    plan: Plan,
+) -> Result<Plan, Memory>
+    ensures { IfOk result (λ p. p ≡ groups_moved n keys.now calls.now plan) }
+{
+    let partial = partial(alloc, keys, calls, plan);
+    let (to, plan) = both(target(alloc, keys, n), partial)?;
+    let plan = Plan::exchange(alloc, to, plan)?;
+    finished(alloc, keys, calls, plan)
+}
+
 /// The groups of the rows of a plan.
 pub(crate) fn grouped(
     alloc: Global,
@@ -137,15 +135,14 @@ pub(crate) fn grouped(
     n: u32,
     from: Standing,
 ) -> Result<Standing, Memory>
-    ensures { (ways : Ways) (files : ℕ → ℕ) (schema : List FieldData) (x : Query) → Planned ways n files x from.plan from.place →
-        IfOk result (λ s. Planned ways n files (Query.Aggregate keys.now calls.now schema x) s.plan s.place) }
+    ensures plan { IfOk result (λ s. s.plan ≡ groups_plan n keys.now calls.now from.plan from.place) }
+    ensures place { IfOk result (λ s. s.place ≡ groups_place n keys.now from.plan from.place) }
 {
     if serves(keys, &from) {
         let place = place_of_groups(alloc, keys, &from);
         stands(both(grouped_here(alloc, keys, calls, from.plan), place))
     } else {
         let place = place_of(alloc, keys);
-        let (to, plan) = both(target(alloc, keys, n), Ok(from.plan))?;
-        stands(both(grouped_behind(alloc, keys, calls, to, plan), place))
+        stands(both(grouped_behind(alloc, keys, calls, n, from.plan), place))
     }
 }

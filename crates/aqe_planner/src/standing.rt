@@ -1,6 +1,6 @@
 //! A plan with the place of its rows, and the nodes that keep rows within their parts.
 
-ghost use Rattle.std.specs.Prelude.{◌≡◌, ◌×◌, Ok, IfOk};
+ghost use Rattle.std.specs.Prelude.{◌≡◌, Ok, IfOk};
 ghost use Rattle.aqe_fitting.specs.Placing as spec;
 
 use crate::placing::after_project;
