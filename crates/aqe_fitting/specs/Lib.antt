@@ -7,3 +7,4 @@ pub mod Ways
 pub mod Strands
 pub mod ReadsFit
 pub mod Fits
+pub mod Laws

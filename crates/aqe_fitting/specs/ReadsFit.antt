@@ -82,10 +82,14 @@ is_split_by_keys (place.Hash keys) = true
 is_split_by_keys (place.Range keys) = true
 is_split_by_keys w = false
 
--- A strand may be cut where plans are made again as sizes come in, where no exchange is in it, and all that it reads was made.
+-- A strand may be cut where plans are made again as sizes come in, where no exchange is in it, and all that it reads was made; one that
+-- reads nothing has nothing to cut.
+abbrev pub all_made : List StageSize → List StageId → Bool
+all_made sizes [] = false
+all_made sizes (stage ∷ stages) = list_all (λ read. is_some (cells_of sizes read)) (stage ∷ stages)
+
 abbrev pub may_cut : Facts → Strand → Bool
-may_cut facts s =
-    is_on (value_of key.Enabled facts.settings) && (not s.has_exchange && list_all (λ stage. is_some (cells_of facts.sizes stage)) s.reads)
+may_cut facts s = is_on (value_of key.Enabled facts.settings) && (not s.has_exchange && all_made facts.sizes s.reads)
 
 -- the read is local: its stage is a hash, and a broadcast join brings the other side to it
 abbrev pub is_local_at : Facts → Option StageId → Bool
