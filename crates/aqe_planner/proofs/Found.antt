@@ -1,5 +1,5 @@
 -- Keys that are found one by one.
-use Rattle.std.proofs.Common.{ap, sym, rules, arith, ◌≡◌, ◌<◌, refl, Bool, true, false, ℕ, ◌+◌, length, List, [], ◌∷◌, ◌++◌, Option, Some, None, take, drop, get_or, slice_index_or, ◌==◌}
+use Rattle.std.proofs.Common.{ap, sym, ◌∙◌, ◌≡◌, ◌<◌, refl, false, ℕ, ◌+◌, length, List, [], ◌∷◌, ◌++◌, Option, Some, None, take, drop, get_or, ◌==◌}
 use Rattle.std.specs.Option.{option_map}
 use Rattle.std.specs.List.{list_all}
 use Rattle.std.proofs.lemmas.List.{take_more, take-append-drop, drop_more}

@@ -1,5 +1,5 @@
 -- What is planned so far, and what the planner has to know.
-use Rattle.std.specs.Prelude.{ℕ, ◌<◌, Bool, true, false, IsTrue, List, All}
+use Rattle.std.specs.Prelude.{ℕ, ◌<◌, Bool, true, false, IsTrue, All}
 use Rattle.aqe_logical.specs.declared.plan.Logical.{Logical, OneRow, Scan, Empty, Held, HeldPartial}
 use Rattle.aqe_logical.specs.Shapes.{filtered, projected, joined, aggregated, united, sorted, limited, sampled}
 use Rattle.aqe_logical.specs.Nodes.{nodes}

@@ -45,7 +45,10 @@ fn planned(
             projected(alloc, items, from)
         }
         Logical::Aggregate {
-            keys, calls, child, ..
+            keys,
+            calls,
+            child,
+            ..
         } => {
             let from = planned(alloc, child.get(), estimates, settings)?;
             grouped(alloc, keys, calls, settings.exchange_partitions(), from)

@@ -3,13 +3,13 @@
 ghost use Rattle.std.specs.Prelude.{◌≡◌, ℕ, length, IfOk};
 ghost use Rattle.aqe_fitting.specs.Placing as spec;
 ghost use Rattle.aqe_fitting.specs.Keys.{columns_from};
-ghost use Rattle.aqe_planner.specs.Steps.{groups_here, groups_moved, groups_place, groups_plan};
+ghost use Rattle.aqe_planner.specs.Steps.{groups_behind, groups_here, groups_moved, groups_place, groups_plan};
 
 use crate::placing::{after_groups, column_at, keeps_groups};
 use crate::standing::{Standing, stands};
 use aqe_base::Memory;
 use aqe_boxes::both;
-use aqe_logical::{AggCalls, Exprs, Placement, copy_calls, copy_exprs};
+use aqe_logical::{AggCalls, Exprs, Placement, copy_calls, copy_exprs, copy_sort_keys};
 use aqe_physical::{Plan, Target};
 use std::alloc::Global;
 
@@ -62,20 +62,15 @@ fn finished(alloc: Global, keys: &Exprs, calls: &AggCalls, plan: Plan) -> Result
 }
 
 /// The groups of each part of a plan.
-fn grouped_here(
-    alloc: Global,
-    keys: &Exprs,
-    calls: &AggCalls,
-    plan: Plan,
-) -> Result<Plan, Memory>
+fn grouped_here(alloc: Global, keys: &Exprs, calls: &AggCalls, plan: Plan) -> Result<Plan, Memory>
     ensures { IfOk result (λ p. p ≡ groups_here keys.now calls.now plan) }
 {
     let plan = partial(alloc, keys, calls, plan)?;
     finished(alloc, keys, calls, plan)
 }
 
-
 /// The first columns, so many.
+#[tactic(auto, using(crate::proofs::Rows::columns_more))]
 fn first_columns(alloc: Global, count: usize) -> Result<Exprs, Memory>
     ensures { IfOk result (λ columns. columns ≡ columns_from 0 count) }
 {
@@ -100,14 +95,20 @@ fn target(alloc: Global, keys: &Exprs, n: u32) -> Result<Target, Memory>
 }
 
 /// The place that an exchange to this target gives.
-fn place_of(alloc: Global, keys: &Exprs) -> Result<Placement, Memory>
-    ensures { (n : ℕ) → IfOk result (λ w. w ≡ spec.place_of (spec.groups_target n (length keys.now))) }
+fn place_of(alloc: Global, to: &Target) -> Result<Placement, Memory>
+    ensures { IfOk result (λ w. w ≡ spec.place_of to.now) }
 {
-    if keys.is_empty() {
-        Ok(Placement::Single)
-    } else {
-        let keys = first_columns(alloc, keys.len())?;
-        Ok(Placement::Hash(keys))
+    match to {
+        Target::Hash { keys, .. } => {
+            let keys = copy_exprs(alloc, keys)?;
+            Ok(Placement::Hash(keys))
+        }
+        Target::Range { keys, .. } => {
+            let keys = copy_sort_keys(alloc, keys)?;
+            Ok(Placement::Range(keys))
+        }
+        Target::Single => Ok(Placement::Single),
+        Target::Broadcast => Ok(Placement::Any),
     }
 }
 
@@ -116,15 +117,44 @@ fn grouped_behind(
     alloc: Global,
     keys: &Exprs,
     calls: &AggCalls,
-    n: u32,
+    to: Target,
     plan: Plan,
 ) -> Result<Plan, Memory>
-    ensures { IfOk result (λ p. p ≡ groups_moved n keys.now calls.now plan) }
+    ensures { IfOk result (λ p. p ≡ groups_behind keys.now calls.now to plan) }
 {
-    let partial = partial(alloc, keys, calls, plan);
-    let (to, plan) = both(target(alloc, keys, n), partial)?;
+    let (to, plan) = both(Ok(to), partial(alloc, keys, calls, plan))?;
     let plan = Plan::exchange(alloc, to, plan)?;
     finished(alloc, keys, calls, plan)
+}
+
+/// Groups that are finished where their rows stand.
+fn stand_here(
+    alloc: Global,
+    keys: &Exprs,
+    calls: &AggCalls,
+    from: Standing,
+) -> Result<Standing, Memory>
+    ensures plan { IfOk result (λ s. s.plan ≡ groups_here keys.now calls.now from.plan) }
+    ensures place { IfOk result (λ s. s.place ≡ spec.place_of_groups keys.now from.plan from.place) }
+{
+    let place = place_of_groups(alloc, keys, &from);
+    stands(both(grouped_here(alloc, keys, calls, from.plan), place))
+}
+
+/// Groups that are finished behind an exchange.
+fn stand_behind(
+    alloc: Global,
+    keys: &Exprs,
+    calls: &AggCalls,
+    n: u32,
+    plan: Plan,
+) -> Result<Standing, Memory>
+    ensures plan { IfOk result (λ s. s.plan ≡ groups_moved n keys.now calls.now plan) }
+    ensures place { IfOk result (λ s. s.place ≡ spec.place_of (spec.groups_target n (length keys.now))) }
+{
+    let (to, plan) = both(target(alloc, keys, n), Ok(plan))?;
+    let place = place_of(alloc, &to);
+    stands(both(grouped_behind(alloc, keys, calls, to, plan), place))
 }
 
 /// The groups of the rows of a plan.
@@ -139,10 +169,8 @@ pub(crate) fn grouped(
     ensures place { IfOk result (λ s. s.place ≡ groups_place n keys.now from.plan from.place) }
 {
     if serves(keys, &from) {
-        let place = place_of_groups(alloc, keys, &from);
-        stands(both(grouped_here(alloc, keys, calls, from.plan), place))
+        stand_here(alloc, keys, calls, from)
     } else {
-        let place = place_of(alloc, keys);
-        stands(both(grouped_behind(alloc, keys, calls, n, from.plan), place))
+        stand_behind(alloc, keys, calls, n, from.plan)
     }
 }

@@ -1,4 +1,4 @@
-use Rattle.std.proofs.Common.{rules, arith, refl}
+use Rattle.std.proofs.Common.{rules}
 use Rattle.aqe_planner.specs.Columns.{found_by}
 use Rattle.aqe_planner.proofs.Found.{found_more, not_found}
 use Rattle.aqe_planner.proofs.placing.found_keys.Goals as goal
