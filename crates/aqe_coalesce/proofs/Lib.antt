@@ -1,0 +1,5 @@
+pub mod Sums
+pub mod Filling
+pub mod Unique
+pub mod SomeGroups
+pub mod KnownAnswers

@@ -1,0 +1,4 @@
+pub mod Runs
+pub mod Covering
+pub mod Steps
+pub mod KnownAnswers

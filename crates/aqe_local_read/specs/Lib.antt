@@ -1,0 +1,2 @@
+pub mod LocalRects
+pub mod Laws

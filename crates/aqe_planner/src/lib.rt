@@ -1,0 +1,9 @@
+//! The first physical plan of a query, before anything of it was run.
+#![tactic(auto)]
+
+mod first;
+mod groups;
+mod placing;
+mod standing;
+
+pub use first::first_plan;

@@ -1,0 +1,4 @@
+pub mod Ascending
+pub mod EvenSums
+pub mod OnePairing
+pub mod KnownAnswers

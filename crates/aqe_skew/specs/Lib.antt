@@ -1,0 +1,4 @@
+pub mod Skewed
+pub mod Splits
+pub mod Paired
+pub mod Laws
