@@ -1,0 +1,6 @@
+pub mod Bounds
+pub mod Fates
+pub mod History
+pub mod Looks
+pub mod Positions
+pub mod Rest
