@@ -4,3 +4,8 @@ pub mod History
 pub mod Looks
 pub mod Positions
 pub mod Rest
+pub mod Tables
+pub mod Stands
+pub mod Changes
+pub mod Cursors
+pub mod Laws
