@@ -1,0 +1,5 @@
+pub mod Lists
+pub mod Standing
+pub mod Stepping
+pub mod Fitting
+pub mod KnownAnswers
