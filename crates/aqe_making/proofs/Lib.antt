@@ -3,3 +3,4 @@ pub mod Standing
 pub mod Stepping
 pub mod Fitting
 pub mod KnownAnswers
+pub mod Columns

@@ -2,6 +2,7 @@
 use Rattle.std.specs.Prelude.{ℕ, Bool, true, false, ◌≡◌, List, [], ◌∷◌, All, Some}
 use Rattle.aqe_base.specs.declared.stage_id.StageId.{StageId}
 use Rattle.aqe_logical.specs.declared.plan.Logical.{Logical}
+use Rattle.aqe_logical.specs.Columns.{schema_of}
 use Rattle.aqe_physical.specs.declared.plan.Plan.{Plan}
 use Rattle.aqe_physical.specs.Counts.{PartsFit}
 use Rattle.aqe_stages.specs.Stages.{Stage}
@@ -9,6 +10,7 @@ use Rattle.aqe_stages.specs.Making.{Made}
 use Rattle.aqe_making.specs.Ready.{is_ready}
 use Rattle.aqe_making.specs.Makings.{Place, Making, makings, all_makings}
 use Rattle.aqe_making.specs.After.{after, stage_at}
+use Rattle.aqe_making.specs.Held.{logical_after}
 use Rattle.aqe_making.specs.Next.{Next}
 
 -- the next stage and both plans after it are determined
@@ -61,3 +63,7 @@ PartsStillFit = (number : StageId) (place : Place) (plan : Plan) → PartsFit pl
 -- and so can those of the body of a stage that is made of it
 abbrev pub BodiesFit : Type 0
 BodiesFit = (place : Place) (plan : Plan) (stage : Stage) → stage_at place plan ≡ Some stage → PartsFit plan → PartsFit stage.body
+
+-- the logical plan after a stage was made has the columns of the plan before
+abbrev pub ColumnsStay : Type 0
+ColumnsStay = (number : StageId) (x : Logical) (place : Place) (p : Plan) → schema_of (logical_after number x place p) ≡ schema_of x

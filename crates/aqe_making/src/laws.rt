@@ -1,6 +1,6 @@
 //! Laws of making, each the contract of a function that does nothing.
 
-ghost use Rattle.aqe_making.specs.Laws.{AtMostOneIsNext, BodiesFit, MadeOneByOne, MakingsAreReady, MakingsStandInThePlan, NextIsMade, NotReadyAfter, PartsStillFit, QueriesMadeOneByOne, ReadyHasNoOther, StagesAreMade};
+ghost use Rattle.aqe_making.specs.Laws.{AtMostOneIsNext, BodiesFit, ColumnsStay, MadeOneByOne, MakingsAreReady, MakingsStandInThePlan, NextIsMade, NotReadyAfter, PartsStillFit, QueriesMadeOneByOne, ReadyHasNoOther, StagesAreMade};
 
 /// The next stage of a query, and both its plans after it, are determined.
 pub fn at_most_one_is_next()
@@ -55,4 +55,9 @@ pub fn parts_still_fit()
 /// The numbers of parts of a body fit in 32 bits where those of the plan do.
 pub fn bodies_fit()
     ensures { BodiesFit }
+{}
+
+/// The logical plan after a stage was made has the columns of the plan before.
+pub fn columns_stay()
+    ensures { ColumnsStay }
 {}
