@@ -1,0 +1,5 @@
+pub mod Within
+pub mod Together
+pub mod Respelled
+pub mod Projected
+pub mod GroupPlaces

@@ -1,0 +1,53 @@
+-- The laws of plans that the table of planning gives.
+use Rattle.std.specs.Prelude.{ℕ, suc, ◌+◌, ◌≡◌, ◌≤◌, ◌<◌, true, List, map, take, length, All, Contains, IsPermutation}
+use Rattle.aqe_logical.specs.declared.plan.AggCall.{AggCall}
+use Rattle.aqe_expr.specs.declared.expr.Expr.{Expr}
+use Rattle.aqe_logical.specs.declared.plan.Placement.{Placement}
+use Rattle.aqe_logical.specs.declared.plan.Placement.TheVariants as place
+use Rattle.aqe_logical.specs.Answers.{Row}
+use Rattle.aqe_logical.specs.Groups.{row_of, group_rows, finish_rows}
+use Rattle.aqe_logical.specs.WellFormed.{HaveWidth}
+use Rattle.aqe_partial.specs.PartialRows.{joined_parts, partial_rows}
+use Rattle.aqe_places.specs.Places.{by_hash, exchanged}
+use Rattle.aqe_places.specs.Laws.{Placed}
+use Rattle.aqe_fitting.specs.Keys.{columns_from}
+use Rattle.aqe_fitting.specs.Placing.{after_project, after_groups, keeps_groups}
+use Rattle.aqe_fit_laws.specs.Standing.{Cut, Stands, plainly}
+
+-- each row that a node leaves of a part is one of the part
+abbrev pub LeavesOnlyRows : (List Row → List Row) → Type 0
+LeavesOnlyRows g = (rows : List Row) → All (Contains rows) (g rows)
+
+-- what is done to each part by itself, and makes no new row, keeps every placement
+abbrev pub NodesWithinPartsKeepPlaces : Type 0
+NodesWithinPartsKeepPlaces = (n : ℕ) (cut : Cut) (place : Placement) (g : List Row → List Row) (parts : List (List Row)) →
+    LeavesOnlyRows g → Stands n cut place parts → Stands n cut place (map g parts)
+
+-- a project moves every placement as the table of placements says
+abbrev pub ProjectsMovePlaces : Type 0
+ProjectsMovePlaces = (n : ℕ) (cut : Cut) (items : List Expr) (place : Placement) (parts : List (List Row)) →
+    Stands n cut place parts → Stands n cut (after_project items place) (map (map (row_of items)) parts)
+
+-- so do partial groups, over parts in which equal keys stand together
+abbrev pub GroupsMovePlaces : Type 0
+GroupsMovePlaces = (n : ℕ) (cut : Cut) (keys : List Expr) (calls : List AggCall) (place : Placement) (parts : List (List Row)) →
+    keeps_groups keys place ≡ true → Stands n cut place parts →
+    Stands n cut (after_groups keys place) (map (partial_rows (length keys) (row_of keys) calls) parts)
+
+-- partial rows that are moved by the hash of their key columns stand so when they are finished
+abbrev pub FinishedExchangesStand : Type 0
+FinishedExchangesStand = (n k : ℕ) (calls : List AggCall) (rows : List Row) → HaveWidth (suc k + length calls) rows →
+    Stands n (plainly n) (place.Hash (columns_from 0 (suc k))) (map (finish_rows (suc k) calls) (exchanged (by_hash n (columns_from 0 (suc k))) n rows))
+
+-- where the part of a row is told by its key, partial rows of the parts, finished part by part, are the groups of the whole
+abbrev pub GroupsOfPlacedParts : Type 0
+GroupsOfPlacedParts = (n : ℕ) (key : Row → Row) (calls : List AggCall) (g : Row → ℕ) (parts : List (List Row)) →
+    ((row : Row) → length (key row) ≡ suc n) → Placed (λ row. g (key row)) 0 parts →
+    joined_parts (map (finish_rows (suc n) calls) (map (partial_rows (suc n) key calls) parts)) ≡ group_rows (suc n) key calls (joined_parts parts)
+
+-- partial rows moved by their keys to any number of parts, and finished there, are the groups of the whole
+abbrev pub GroupsOfMovedParts : Type 0
+GroupsOfMovedParts = (n : ℕ) (key : Row → Row) (calls : List AggCall) (g : Row → ℕ) (count : ℕ) (parts : List (List Row)) →
+    ((row : Row) → length (key row) ≡ suc n) → ((k : Row) → g k < count) →
+    IsPermutation (group_rows (suc n) key calls (joined_parts parts))
+    (joined_parts (map (finish_rows (suc n) calls) (exchanged (λ row. g (take (suc n) row)) count (joined_parts (map (partial_rows (suc n) key calls) parts)))))

@@ -1,0 +1,33 @@
+//! Laws of the definitions, each the contract of a function that does nothing.
+
+ghost use Rattle.aqe_fit_laws.specs.Laws.{FinishedExchangesStand, GroupsMovePlaces, GroupsOfMovedParts, GroupsOfPlacedParts, NodesWithinPartsKeepPlaces, ProjectsMovePlaces};
+
+/// What is done to each part by itself, and makes no new row, keeps every placement.
+pub fn nodes_within_parts_keep_places()
+    ensures { NodesWithinPartsKeepPlaces }
+{}
+
+/// A project moves every placement as the table of placements says.
+pub fn projects_move_places()
+    ensures { ProjectsMovePlaces }
+{}
+
+/// Partial groups over parts in which equal keys stand together move every placement as the table of placements says.
+pub fn groups_move_places()
+    ensures { GroupsMovePlaces }
+{}
+
+/// Partial rows that are moved by the hash of their key columns stand so when they are finished.
+pub fn finished_exchanges_stand()
+    ensures { FinishedExchangesStand }
+{}
+
+/// Over parts in which rows of equal keys stand together, the groups of the parts end to end are the groups of the whole.
+pub fn groups_of_placed_parts()
+    ensures { GroupsOfPlacedParts }
+{}
+
+/// Partial rows that are moved by their keys and then finished part by part are the groups of the whole.
+pub fn groups_of_moved_parts()
+    ensures { GroupsOfMovedParts }
+{}

@@ -1,0 +1,9 @@
+//! Laws of planning: what a plan that the table of planning gives has as its rows.
+#![tactic(auto)]
+
+mod laws;
+
+pub use laws::{
+    finished_exchanges_stand, groups_move_places, groups_of_moved_parts, groups_of_placed_parts,
+    nodes_within_parts_keep_places, projects_move_places,
+};
