@@ -23,9 +23,9 @@ use Rattle.aqe_places.proofs.Exchanged.{place_the_rows}
 use Rattle.aqe_fitting.specs.Keys.{columns_from}
 use Rattle.aqe_fitting.specs.Placing.{after_groups, each_found, column_with, hash_by, keeps_groups}
 use Rattle.aqe_fit_laws.specs.Standing.{Cut, Stands, plainly}
-use Rattle.aqe_fit_laws.specs.Laws.{GroupsMovePlaces, FinishedExchangesStand}
-use Rattle.aqe_fit_laws.proofs.Together.{distinct_all}
-use Rattle.aqe_fit_laws.proofs.Respelled.{Respelled, respelled, column_found, columns_in_front}
+use Rattle.aqe_fit_laws.specs.Laws.{GroupsMovePlaces, GroupsOverAPlace, FinishedExchangesStand}
+use Rattle.aqe_fit_laws.proofs.Together.{distinct_all, one_part, placed_groups}
+use Rattle.aqe_fit_laws.proofs.Respelled.{Respelled, respelled, all_found, column_found, columns_in_front}
 
 -- what holds of each key of rows, with whatever behind it, holds of the rows of their groups
 groups_all : (P : Row → Type 0) (key : Row → Row) (each : Row → List Value) (rows : List Row) → All (λ row. (more : Row) → P (key row ++ more)) rows → All P (map (λ k. k ++ each k) (distinct (map key rows)))
@@ -62,6 +62,41 @@ module _ (n : ℕ) (cut : Cut) (calls : List AggCall) (parts : List (List Row)) 
 
 pub group_places : GroupsMovePlaces
 group_places n cut keys calls w parts s h = grouped_stand n cut calls parts keys w s h
+
+-- groups over parts in which rows of equal keys stand together
+module _ (n : ℕ) (cut : Cut) (calls : List AggCall) (parts : List (List Row)) where
+  groups_by_hash : (key : Expr) (keys others : List Expr) → keeps_groups (key ∷ keys) (place.Hash others) ≡ true → Stands n cut (place.Hash others) parts →
+      joined_parts (map (finish_rows (suc (length keys)) calls) (map (partial_rows (suc (length keys)) (row_of (key ∷ keys)) calls) parts)) ≡ group_rows (suc (length keys)) (row_of (key ∷ keys)) calls (joined_parts parts)
+  groups_by_hash key keys others s (count, all) =
+      let spelled = all_found (key ∷ keys) others s in
+      let new = respelled (column_with (key ∷ keys)) (key ∷ keys) (column_found (key ∷ keys)) others spelled.0 spelled.1 in
+      let same : (row : Row) → by_hash n others row ≡ by_hash n spelled.0 (row_of (key ∷ keys) row) =
+      λ row. ap (hash_place n) (sym (new.values row []) ∙ ap (row_of spelled.0) (append-nil (row_of (key ∷ keys) row))) in
+      placed_groups (length keys) (row_of (key ∷ keys)) calls (λ k. cut.number (by_hash n spelled.0 k)) parts (λ row. length-map (key ∷ keys) (val row))
+      (subst (λ (f : Row → ℕ). Placed f 0 parts) (λ i row. cut.number (same row i)) all)
+
+  groups_over : (keys : List Expr) (w : Placement) → keeps_groups keys w ≡ true → Stands n cut w parts →
+      joined_parts (map (finish_rows (length keys) calls) (map (partial_rows (length keys) (row_of keys) calls) parts)) ≡ group_rows (length keys) (row_of keys) calls (joined_parts parts)
+  groups_over keys place.Single s h = one parts h
+    where
+      one : (ps : List (List Row)) → length ps ≡ 1 → joined_parts (map (finish_rows (length keys) calls) (map (partial_rows (length keys) (row_of keys) calls) ps)) ≡ group_rows (length keys) (row_of keys) calls (joined_parts ps)
+      one [] e = absurd (let no : ⊥ = omega (arith, e) in no)
+      one (part ∷ []) e =
+          append-nil (finish_rows (length keys) calls (partial_rows (length keys) (row_of keys) calls part)) ∙
+          (one_part (length keys) (row_of keys) calls part (λ row. length-map keys (val row)) ∙
+          ap (group_rows (length keys) (row_of keys) calls) (sym (append-nil part)))
+      one (part ∷ other ∷ more) e = absurd (let no : ⊥ = omega (arith, e) in no)
+  groups_over [] place.Any s h = absurd (cc)
+  groups_over [] (place.Hash others) s h = absurd (cc)
+  groups_over [] (place.Range others) s h = absurd (cc)
+  groups_over [] place.Broadcast s h = absurd (cc)
+  groups_over (key ∷ keys) place.Any s h = absurd (cc)
+  groups_over (key ∷ keys) (place.Hash others) s h = groups_by_hash key keys others s h
+  groups_over (key ∷ keys) (place.Range others) s h = absurd (cc)
+  groups_over (key ∷ keys) place.Broadcast s h = absurd (cc)
+
+pub over_a_place : GroupsOverAPlace
+over_a_place n cut keys calls w parts s h = groups_over n cut calls parts keys w s h
 
 all_both : {X : Type 0} (P Q : X → Type 0) (xs : List X) → All P xs → All Q xs → All (λ x. P x × Q x) xs
 all_both P Q [] h k = All-nil (λ x. P x × Q x)

@@ -3,3 +3,4 @@ pub mod Together
 pub mod Respelled
 pub mod Projected
 pub mod GroupPlaces
+pub mod ReadPlainly

@@ -187,19 +187,29 @@ pub all_partial : (n : ℕ) (key : Row → Row) (calls : List AggCall) (parts : 
     finish_rows n calls (joined_parts (map (partial_rows n key calls) parts)) ≡ group_rows n key calls (joined_parts parts)
 all_partial n key calls parts long = ap (finish_rows n calls) (flat_map_map (λ part. part) (partial_rows n key calls) parts) ∙ finishing n key calls parts long
 
-pub moved_groups : GroupsOfMovedParts
-moved_groups n key calls g count parts long below =
-    subst (λ rows. IsPermutation rows (joined_parts (map (finish_rows (suc n) calls) moved))) (all_partial (suc n) key calls parts long)
-    (subst (λ rows. IsPermutation (finish_rows (suc n) calls partials) rows) ends
-    (finish_permuted (suc n) calls partials (joined_parts moved) (keep_the_rows (λ row. g (take (suc n) row)) count partials (λ row. below (take (suc n) row)))))
+-- finishing rows that are moved by their keys is finishing them at one place
+pub moved_finish : (n : ℕ) (calls : List AggCall) (g : Row → ℕ) (count : ℕ) (rows : List Row) → ((k : Row) → g k < count) →
+    IsPermutation (finish_rows (suc n) calls rows) (joined_parts (map (finish_rows (suc n) calls) (exchanged (λ row. g (take (suc n) row)) count rows)))
+moved_finish n calls g count rows below =
+    subst (λ others. IsPermutation (finish_rows (suc n) calls rows) others) ends
+    (finish_permuted (suc n) calls rows (joined_parts moved) (keep_the_rows (λ row. g (take (suc n) row)) count rows (λ row. below (take (suc n) row))))
   where
-    partials : List Row
-    partials = joined_parts (map (partial_rows (suc n) key calls) parts)
-
     moved : List (List Row)
-    moved = exchanged (λ row. g (take (suc n) row)) count partials
+    moved = exchanged (λ row. g (take (suc n) row)) count rows
 
     ends : finish_rows (suc n) calls (joined_parts moved) ≡ joined_parts (map (finish_rows (suc n) calls) moved)
     ends =
-        together (take (suc n)) g (finished (suc n) calls) 0 moved (place_the_rows (λ row. g (take (suc n) row)) count partials) ∙
+        together (take (suc n)) g (finished (suc n) calls) 0 moved (place_the_rows (λ row. g (take (suc n) row)) count rows) ∙
         sym (flat_map_map (λ part. part) (finish_rows (suc n) calls) moved)
+
+pub moved_groups : GroupsOfMovedParts
+moved_groups n key calls g count parts long below =
+    subst (λ rows. IsPermutation rows (joined_parts (map (finish_rows (suc n) calls) (exchanged (λ row. g (take (suc n) row)) count (joined_parts (map (partial_rows (suc n) key calls) parts))))))
+    (all_partial (suc n) key calls parts long)
+    (moved_finish n calls g count (joined_parts (map (partial_rows (suc n) key calls) parts)) below)
+
+-- the partial rows of parts, finished, are the partial rows
+pub finished_partials : (n : ℕ) (key : Row → Row) (calls : List AggCall) (parts : List (List Row)) → ((row : Row) → length (key row) ≡ n) →
+    map (finish_rows n calls) (map (partial_rows n key calls) parts) ≡ map (partial_rows n key calls) parts
+finished_partials n key calls [] long = refl
+finished_partials n key calls (part ∷ parts) long = (λ i. one_part n key calls part long i ∷ finished_partials n key calls parts long i)

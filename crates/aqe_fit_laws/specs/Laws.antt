@@ -45,6 +45,13 @@ GroupsOfPlacedParts = (n : ℕ) (key : Row → Row) (calls : List AggCall) (g : 
     ((row : Row) → length (key row) ≡ suc n) → Placed (λ row. g (key row)) 0 parts →
     joined_parts (map (finish_rows (suc n) calls) (map (partial_rows (suc n) key calls) parts)) ≡ group_rows (suc n) key calls (joined_parts parts)
 
+-- so they are over parts that stand in any way in which rows of equal grouping keys stand in one part; without keys it is one part
+abbrev pub GroupsOverAPlace : Type 0
+GroupsOverAPlace = (n : ℕ) (cut : Cut) (keys : List Expr) (calls : List AggCall) (place : Placement) (parts : List (List Row)) →
+    keeps_groups keys place ≡ true → Stands n cut place parts →
+    joined_parts (map (finish_rows (length keys) calls) (map (partial_rows (length keys) (row_of keys) calls) parts)) ≡
+    group_rows (length keys) (row_of keys) calls (joined_parts parts)
+
 -- partial rows moved by their keys to any number of parts, and finished there, are the groups of the whole
 abbrev pub GroupsOfMovedParts : Type 0
 GroupsOfMovedParts = (n : ℕ) (key : Row → Row) (calls : List AggCall) (g : Row → ℕ) (count : ℕ) (parts : List (List Row)) →

@@ -1,6 +1,6 @@
 //! Laws of the definitions, each the contract of a function that does nothing.
 
-ghost use Rattle.aqe_fit_laws.specs.Laws.{FinishedExchangesStand, GroupsMovePlaces, GroupsOfMovedParts, GroupsOfPlacedParts, NodesWithinPartsKeepPlaces, ProjectsMovePlaces};
+ghost use Rattle.aqe_fit_laws.specs.Laws.{FinishedExchangesStand, GroupsMovePlaces, GroupsOfMovedParts, GroupsOfPlacedParts, GroupsOverAPlace, NodesWithinPartsKeepPlaces, ProjectsMovePlaces};
 
 /// What is done to each part by itself, and makes no new row, keeps every placement.
 pub fn nodes_within_parts_keep_places()
@@ -25,6 +25,11 @@ pub fn finished_exchanges_stand()
 /// Over parts in which rows of equal keys stand together, the groups of the parts end to end are the groups of the whole.
 pub fn groups_of_placed_parts()
     ensures { GroupsOfPlacedParts }
+{}
+
+/// So are the groups over parts that stand in any way in which rows of equal grouping keys stand in one part.
+pub fn groups_over_a_place()
+    ensures { GroupsOverAPlace }
 {}
 
 /// Partial rows that are moved by their keys and then finished part by part are the groups of the whole.

@@ -5,5 +5,6 @@ mod laws;
 
 pub use laws::{
     finished_exchanges_stand, groups_move_places, groups_of_moved_parts, groups_of_placed_parts,
+    groups_over_a_place,
     nodes_within_parts_keep_places, projects_move_places,
 };
