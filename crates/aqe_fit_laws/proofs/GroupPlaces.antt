@@ -1,21 +1,19 @@
 -- Where the rows of groups stand.
-use Rattle.std.proofs.Common.{◌≡◌, ℕ, zero, suc, ◌+◌, ◌≤◌, ◌==◌, Bool, true, false, not, ◌&&◌, List, [], ◌∷◌, ◌++◌, map, take, length, refl, ap, sym, ◌∙◌, arith, append-nil, subst, Option, Some, None}
-use Rattle.std.specs.Prelude.{filter, flat_map, All, slice_index_or}
-use Rattle.std.specs.List.{list_all, list_any, range_with_len}
-use Rattle.std.proofs.lemmas.List.{length-map, length-take}
+use Rattle.std.proofs.Common.{◌≡◌, ℕ, suc, ◌+◌, ◌==◌, true, List, [], ◌∷◌, ◌++◌, map, take, length, refl, ap, sym, ◌∙◌, arith, append-nil, subst, Option, Some, None}
+use Rattle.std.specs.Prelude.{All}
+use Rattle.std.specs.List.{range_with_len}
+use Rattle.std.proofs.lemmas.List.{length-map}
 use Rattle.std.proofs.lemmas.List.FromFn.{length-map-range_with_len}
-use Rattle.std.proofs.lemmas.List.Elements.{All-nil, All-cons, All-head, All-tail, All-append, All-map, All-weaker, All-filter}
+use Rattle.std.proofs.lemmas.List.Elements.{All-nil, All-cons, All-head, All-tail, All-map, All-weaker, All-filter}
 use Rattle.aqe_values.specs.declared.value.Value.{Value}
 use Rattle.aqe_values.specs.Murmur.{hash_place}
 use Rattle.aqe_expr.specs.declared.expr.Expr.{Expr}
 use Rattle.aqe_expr.specs.Meaning.{val}
-use Rattle.aqe_rules.specs.Equality.{same_expr}
 use Rattle.aqe_logical.specs.declared.plan.AggCall.{AggCall}
 use Rattle.aqe_logical.specs.declared.plan.Placement.{Placement}
 use Rattle.aqe_logical.specs.declared.plan.Placement.TheVariants as place
 use Rattle.aqe_logical.specs.Answers.{Row}
-use Rattle.aqe_logical.specs.Groups.{row_of, distinct, group_keys, group_rows, finish_rows, finished, rows_with, call_value}
-use Rattle.aqe_logical.specs.WellFormed.{HaveWidth}
+use Rattle.aqe_logical.specs.Groups.{row_of, distinct, group_rows, finish_rows, finished, rows_with, call_value}
 use Rattle.aqe_partial.specs.PartialRows.{joined_parts, partial_rows}
 use Rattle.aqe_places.specs.Places.{by_hash, exchanged, part_of}
 use Rattle.aqe_places.specs.Laws.{Placed}
@@ -25,7 +23,7 @@ use Rattle.aqe_fitting.specs.Placing.{after_groups, each_found, column_with, has
 use Rattle.aqe_fit_laws.specs.Standing.{Cut, Stands, plainly}
 use Rattle.aqe_fit_laws.specs.Laws.{GroupsMovePlaces, GroupsOverAPlace, FinishedExchangesStand}
 use Rattle.aqe_fit_laws.proofs.Together.{distinct_all, one_part, placed_groups}
-use Rattle.aqe_fit_laws.proofs.Respelled.{Respelled, respelled, all_found, column_found, columns_in_front}
+use Rattle.aqe_fit_laws.proofs.Respelled.{respelled, all_found, column_found, columns_in_front}
 
 -- what holds of each key of rows, with whatever behind it, holds of the rows of their groups
 groups_all : (P : Row → Type 0) (key : Row → Row) (each : Row → List Value) (rows : List Row) → All (λ row. (more : Row) → P (key row ++ more)) rows → All P (map (λ k. k ++ each k) (distinct (map key rows)))
@@ -37,20 +35,22 @@ groups_all P key each rows h =
 module _ (m : ℕ) (key : Row → Row) (calls : List AggCall) (f g : Row → ℕ) (same : (row more : Row) → g (key row ++ more) ≡ f row) where
   placed_partials : (a : ℕ) (parts : List (List Row)) → Placed f a parts → Placed g a (map (partial_rows (suc m) key calls) parts)
   placed_partials a [] h = tt
-  placed_partials a (part ∷ parts) (h, k) =
-      (groups_all (λ row. g row ≡ a) key (λ k. map (call_value (rows_with key k part)) calls) part
-      (All-weaker (λ row. f row ≡ a) (λ row. (more : Row) → g (key row ++ more) ≡ a) (λ row e more. same row more ∙ e) part h),
-      placed_partials (a + 1) parts k)
+  placed_partials a (part ∷ parts) (h, k) = (
+    groups_all (λ row. g row ≡ a) key (λ k. map (call_value (rows_with key k part)) calls) part
+        (All-weaker (λ row. f row ≡ a) (λ row. (more : Row) → g (key row ++ more) ≡ a) (λ row e more. same row more ∙ e) part h),
+    placed_partials (a + 1) parts k,
+  )
 
 module _ (n : ℕ) (cut : Cut) (calls : List AggCall) (parts : List (List Row)) where
   by_keys : (key : Expr) (keys others : List Expr) → Stands n cut (place.Hash others) parts → (o : Option (List Expr)) → each_found (column_with (key ∷ keys)) others ≡ o →
       Stands n cut (hash_by o) (map (partial_rows (suc (length keys)) (row_of (key ∷ keys)) calls) parts)
   by_keys key keys others all None e = tt
   by_keys key keys others (count, all) (Some spelled) e =
-      let new = respelled (column_with (key ∷ keys)) (key ∷ keys) (column_found (key ∷ keys)) others spelled e in
-      (length-map parts (partial_rows (suc (length keys)) (row_of (key ∷ keys)) calls) ∙ count,
-      placed_partials (length keys) (row_of (key ∷ keys)) calls (λ row. cut.number (by_hash n others row)) (λ row. cut.number (by_hash n spelled row))
-      (λ row more. ap (λ k. cut.number (hash_place n k)) (new.values row more)) 0 parts all)
+      let new = respelled (column_with (key ∷ keys)) (key ∷ keys) (column_found (key ∷ keys)) others spelled e in (
+        length-map parts (partial_rows (suc (length keys)) (row_of (key ∷ keys)) calls) ∙ count,
+        placed_partials (length keys) (row_of (key ∷ keys)) calls (λ row. cut.number (by_hash n others row)) (λ row. cut.number (by_hash n spelled row))
+            (λ row more. ap (λ k. cut.number (hash_place n k)) (new.values row more)) 0 parts all,
+      )
 
   grouped_stand : (keys : List Expr) (w : Placement) → keeps_groups keys w ≡ true → Stands n cut w parts → Stands n cut (after_groups keys w) (map (partial_rows (length keys) (row_of keys) calls) parts)
   grouped_stand keys place.Any s h = tt
@@ -113,21 +113,23 @@ module _ (n m : ℕ) (calls : List AggCall) where
 
   placed_finished : (a : ℕ) (parts : List (List Row)) → All (All Wide) parts → Placed (by_hash n cols) a parts → Placed (by_hash n cols) a (map (finish_rows (suc m) calls) parts)
   placed_finished a [] w h = tt
-  placed_finished a (part ∷ parts) w (h, k) =
-      (groups_all (λ row. by_hash n cols row ≡ a) (take (suc m)) (λ key. finished (suc m) calls (rows_with (take (suc m)) key part)) part
-      (All-weaker (λ row. (by_hash n cols row ≡ a) × Wide row) (λ row. (more : Row) → by_hash n cols (take (suc m) row ++ more) ≡ a)
-      (λ row both more. ap (hash_place n) (columns_in_front (suc m) row more (omega (arith, both.1))) ∙ both.0) part
-      (all_both (λ row. by_hash n cols row ≡ a) Wide part h (All-head (All Wide) part parts w))),
-      placed_finished (a + 1) parts (All-tail (All Wide) part parts w) k)
+  placed_finished a (part ∷ parts) w (h, k) = (
+    groups_all (λ row. by_hash n cols row ≡ a) (take (suc m)) (λ key. finished (suc m) calls (rows_with (take (suc m)) key part)) part
+        (All-weaker (λ row. (by_hash n cols row ≡ a) × Wide row) (λ row. (more : Row) → by_hash n cols (take (suc m) row ++ more) ≡ a)
+        (λ row both more. ap (hash_place n) (columns_in_front (suc m) row more (omega (arith, both.1))) ∙ both.0) part
+        (all_both (λ row. by_hash n cols row ≡ a) Wide part h (All-head (All Wide) part parts w))),
+    placed_finished (a + 1) parts (All-tail (All Wide) part parts w) k,
+  )
 
   wide_parts : (f : Row → ℕ) (rows : List Row) → All Wide rows → (rs : List ℕ) → All (All Wide) (map (part_of f rows) rs)
   wide_parts f rows h [] = All-nil (All Wide)
   wide_parts f rows h (r ∷ rs) = All-cons (All Wide) (part_of f rows r) (map (part_of f rows) rs) (All-filter (λ row. f row == r) Wide rows h) (wide_parts f rows h rs)
 
   stand_finished : (rows : List Row) → All Wide rows → Stands n (plainly n) (place.Hash cols) (map (finish_rows (suc m) calls) (exchanged (by_hash n cols) n rows))
-  stand_finished rows h =
-      (length-map (exchanged (by_hash n cols) n rows) (finish_rows (suc m) calls) ∙ length-map-range_with_len (part_of (by_hash n cols) rows) 0 n,
-      placed_finished 0 (exchanged (by_hash n cols) n rows) (wide_parts (by_hash n cols) rows h (range_with_len 0 n)) (place_the_rows (by_hash n cols) n rows))
+  stand_finished rows h = (
+    length-map (exchanged (by_hash n cols) n rows) (finish_rows (suc m) calls) ∙ length-map-range_with_len (part_of (by_hash n cols) rows) 0 n,
+    placed_finished 0 (exchanged (by_hash n cols) n rows) (wide_parts (by_hash n cols) rows h (range_with_len 0 n)) (place_the_rows (by_hash n cols) n rows),
+  )
 
 pub finished_stand : FinishedExchangesStand
 finished_stand n m calls rows h = stand_finished n m calls rows h

@@ -4,3 +4,8 @@ pub mod Respelled
 pub mod Projected
 pub mod GroupPlaces
 pub mod ReadPlainly
+pub mod Widths
+pub mod NodeServes
+pub mod HeldServes
+pub mod PlansServe
+pub mod QueriesStand

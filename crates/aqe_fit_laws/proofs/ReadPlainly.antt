@@ -1,8 +1,7 @@
 -- The plain read of a shuffle stage.
-use Rattle.std.proofs.Common.{◌≡◌, ℕ, zero, suc, ◌+◌, ◌<◌, ◌≤◌, List, [], ◌∷◌, ◌++◌, map, length, refl, ap, sym, ◌∙◌, arith, append_assoc, append-nil, subst, length-append}
-use Rattle.std.specs.Prelude.{flat_map, All, IsPermutation}
-use Rattle.std.specs.List.{range_with_len}
-use Rattle.std.proofs.lemmas.List.{length-map, get_or_push}
+use Rattle.std.proofs.Common.{◌≡◌, ℕ, zero, suc, ◌<◌, ◌≤◌, List, [], ◌∷◌, ◌++◌, map, length, refl, ap, sym, ◌∙◌, arith, append_assoc, append-nil, subst, length-append}
+use Rattle.std.specs.Prelude.{IsPermutation}
+use Rattle.std.proofs.lemmas.List.{get_or_push}
 use Rattle.std.proofs.lemmas.List.FromFn.{length-map-range_with_len}
 use Rattle.std.proofs.lemmas.List.Sorted.{IsPermutation-trans, IsPermutation-sym}
 use Rattle.aqe_base.specs.declared.cells.Rect.{Rect}
@@ -28,17 +27,17 @@ use Rattle.aqe_physical.specs.declared.target.StageKind.{StageKind}
 use Rattle.aqe_physical.specs.declared.target.StageKind.TheVariants as kind
 use Rattle.aqe_physical.specs.declared.plan.Plan as plan
 use Rattle.aqe_physical.specs.Counts.{part_count, target_count}
-use Rattle.aqe_stages.specs.Stages.{Stage, Stages, Given, Output, output_of}
+use Rattle.aqe_stages.specs.Stages.{Stage, Stages, Given, output_of}
 use Rattle.aqe_stages.specs.Cells.{rect_rows, all_rows}
 use Rattle.aqe_stages.specs.Places.{place as placed, key_less, samples, cells_of}
-use Rattle.aqe_stages.specs.Parts.{parts, output, given_by, cells}
-use Rattle.aqe_stages.specs.Runnable.{OfStage, reducers_of}
+use Rattle.aqe_stages.specs.Parts.{parts, output, given_by}
+use Rattle.aqe_stages.specs.Runnable.{OfStage}
 use Rattle.aqe_stages.proofs.Counted.{counted}
 use Rattle.aqe_stages.proofs.Later.{given_count, given_one_more, cells_stay}
 use Rattle.aqe_stages.proofs.ReadBack.{read_back}
 use Rattle.aqe_fitting.specs.Placing.{place_of}
 use Rattle.aqe_fit_laws.specs.Standing.{Stands, plainly}
-use Rattle.aqe_fit_laws.specs.Leaves.{held_rows, HasParts, GivesPlace}
+use Rattle.aqe_fit_laws.specs.Leaves.{HasParts, GivesPlace}
 use Rattle.aqe_fit_laws.proofs.Together.{flat_map_map}
 
 -- what is said of a stage
@@ -92,9 +91,9 @@ shuffled tables stages number to maps h = at (found stages number (IsShuffleOf t
           before = given;
           bodies = bodies;
           is = (λ i. output_of (given_by tables (whole i)) (sym place i)) ∙
-          (holds_its_output tables front back stage ∙
-          ap (λ (k : StageKind). map (cells_of given k bodies) bodies) is.0);
-          count = counted tables given stage.body ∙ sym is.1
+              (holds_its_output tables front back stage ∙
+              ap (λ (k : StageKind). map (cells_of given k bodies) bodies) is.0);
+          count = counted tables given stage.body ∙ sym is.1;
         }
 
 module _ (before : Given) (bodies : List (List Row)) (n : ℕ) (some : 1 ≤ n) where
@@ -115,11 +114,12 @@ module _ (before : Given) (bodies : List (List Row)) (n : ℕ) (some : 1 ≤ n) 
   pub stands_as : (to : Target) → HasParts n to → (rows : List Row) → Stands n (plainly n) (place_of to) (exchanged (placed before to bodies) (target_count to) rows)
   stands_as (target.Hash keys count) h rows = stands_by_hash keys count h rows
   stands_as (target.Range keys count sample) h rows =
-      let ends : List Row = bounds (key_less keys) count (samples before keys sample bodies) in
-      (subst (λ (less : Row → Row → _). PartsInOrder less (exchanged (by_range (key_less keys) ends (key_of keys)) count rows)) (by_key_rows keys)
-      (ranges_in_order (key_less keys) (key_rows_order (ways_of keys)) ends (key_of keys) count rows),
-      ends,
-      place_the_rows (by_range (key_less keys) ends (key_of keys)) count rows)
+      let ends : List Row = bounds (key_less keys) count (samples before keys sample bodies) in (
+        subst (λ (less : Row → Row → _). PartsInOrder less (exchanged (by_range (key_less keys) ends (key_of keys)) count rows)) (by_key_rows keys)
+            (ranges_in_order (key_less keys) (key_rows_order (ways_of keys)) ends (key_of keys) count rows),
+        ends,
+        place_the_rows (by_range (key_less keys) ends (key_of keys)) count rows,
+      )
   stands_as target.Single h rows = refl
   stands_as target.Broadcast h rows = absurd h
 

@@ -1,12 +1,11 @@
 -- Keys spelled over the columns of the rows that items make.
-use Rattle.std.proofs.Common.{◌≡◌, ℕ, zero, suc, ◌+◌, ◌<◌, ◌≤◌, Bool, true, false, ◌&&◌, ◌||◌, cond, List, [], ◌∷◌, ◌++◌, map, take, length, refl, ap, sym, ◌∙◌, arith, append-nil, subst, Option, Some, None, length-append}
-use Rattle.std.specs.Prelude.{All, slice_index_or, nat_lt, option_map}
-use Rattle.std.specs.List.{list_any, list_all, position, position_or_len, range_with_len}
+use Rattle.std.proofs.Common.{◌≡◌, ℕ, zero, suc, ◌+◌, ◌<◌, ◌≤◌, Bool, true, false, ◌&&◌, cond, List, [], ◌∷◌, ◌++◌, take, length, refl, ap, sym, ◌∙◌, arith, subst, Option, Some, None}
+use Rattle.std.specs.Prelude.{slice_index_or, nat_lt, option_map}
+use Rattle.std.specs.List.{list_any, list_all, position_or_len}
 use Rattle.std.proofs.lemmas.Bool.Decides.{nat_tests}
 use Rattle.std.proofs.lemmas.List.{length-map, length-take, get_or-map, get_or_append_left, get_or-take}
 use Rattle.std.proofs.lemmas.List.Sums.{passes_at_first}
-use Rattle.std.proofs.lemmas.List.Elements.{All-nil, All-cons, All-head, All-tail}
-use Rattle.aqe_values.specs.declared.value.Value.{Value}
+use Rattle.std.proofs.lemmas.List.Elements.{All-nil, All-cons}
 use Rattle.aqe_values.specs.declared.value.Value.TheVariants.{Null}
 use Rattle.aqe_expr.specs.declared.expr.Expr.{Expr, Column, Literal}
 use Rattle.aqe_expr.specs.Below.{ColumnsBelow}
@@ -16,8 +15,6 @@ use Rattle.aqe_logical.specs.Answers.{Row}
 use Rattle.aqe_logical.specs.Groups.{row_of}
 use Rattle.aqe_logical.specs.Order.{ways_of, key_of}
 use Rattle.aqe_logical.specs.WellFormed.{ItemsBelow, KeysBelow}
-use Rattle.aqe_columns.specs.Reading.{columns_of}
-use Rattle.aqe_columns.proofs.Read.{read_their_columns, as_data}
 use Rattle.aqe_rules.specs.Equality.{same_expr}
 use Rattle.aqe_laws.proofs.Same.{same_is_equal}
 use Rattle.aqe_fitting.specs.Keys.{columns_from}
@@ -85,7 +82,7 @@ module _ (found : Expr → Option Expr) (items : List Expr) (each : (e c : Expr)
           subst (Respelled items (e ∷ others)) (some_same (c ∷ cs) spelled k)
           (record {
             values = λ row more. (λ i. found_value items e c one row more i ∷ rest.values row more i);
-            below = All-cons (ColumnsBelow (length items)) c cs (found_below items e c one) rest.below
+            below = All-cons (ColumnsBelow (length items)) c cs (found_below items e c one) rest.below;
           })
 
   pub respelled_keys : (others spelled : List SortKey) → each_found (found_key found) others ≡ Some spelled → RespelledKeys items others spelled
@@ -103,7 +100,7 @@ module _ (found : Expr → Option Expr) (items : List Expr) (each : (e c : Expr)
           (record {
             ways = ap (λ ways. key.way ∷ ways) rest.ways;
             values = λ row more. (λ i. found_value items key.expr c one row more i ∷ rest.values row more i);
-            below = All-cons (λ other. ColumnsBelow (length items) other.expr) (key_over key c) cs (found_below items key.expr c one) rest.below
+            below = All-cons (λ other. ColumnsBelow (length items) other.expr) (key_over key c) cs (found_below items key.expr c one) rest.below;
           })
 
 -- a key that stands among the items is found

@@ -1,9 +1,8 @@
 -- What is done to each part by itself keeps where rows stand.
-use Rattle.std.proofs.Common.{◌≡◌, ℕ, ◌+◌, Bool, false, List, [], ◌∷◌, ◌++◌, map, length, refl, ap, ◌∙◌}
+use Rattle.std.proofs.Common.{◌≡◌, ℕ, ◌+◌, Bool, false, List, [], ◌∷◌, map, ◌∙◌}
 use Rattle.std.specs.Prelude.{flat_map, All, Contains}
 use Rattle.std.proofs.lemmas.List.{length-map}
 use Rattle.std.proofs.lemmas.List.Elements.{All-nil, All-append, All-weaker, All-contains}
-use Rattle.aqe_logical.specs.declared.plan.Placement.{Placement}
 use Rattle.aqe_logical.specs.declared.plan.Placement.TheVariants as place
 use Rattle.aqe_logical.specs.Answers.{Row}
 use Rattle.aqe_logical.specs.Order.{before, key_of}
@@ -11,7 +10,6 @@ use Rattle.aqe_physical.proofs.Walk.{all_left, all_right}
 use Rattle.aqe_places.specs.Places.{by_hash, by_range}
 use Rattle.aqe_places.specs.Laws.{Placed, PartsInOrder}
 use Rattle.aqe_stages.specs.Places.{key_less}
-use Rattle.aqe_fit_laws.specs.Standing.{Cut, Stands}
 use Rattle.aqe_fit_laws.specs.Laws.{LeavesOnlyRows, NodesWithinPartsKeepPlaces}
 
 module _ (g : List Row → List Row) (leaves : LeavesOnlyRows g) where
@@ -30,11 +28,12 @@ module _ (g : List Row → List Row) (leaves : LeavesOnlyRows g) where
 
   order_within : (less : Row → Row → Bool) (parts : List (List Row)) → PartsInOrder less parts → PartsInOrder less (map g parts)
   order_within less [] h = tt
-  order_within less (part ∷ parts) (h, k) =
-      (only (λ x. All (λ y. less y x ≡ false) (flat_map (λ later. later) (map g parts))) part
-      (All-weaker (λ x. All (λ y. less y x ≡ false) (flat_map (λ later. later) parts)) (λ x. All (λ y. less y x ≡ false) (flat_map (λ later. later) (map g parts)))
-      (λ x e. later_within (λ y. less y x ≡ false) parts e) part h),
-      order_within less parts k)
+  order_within less (part ∷ parts) (h, k) = (
+    only (λ x. All (λ y. less y x ≡ false) (flat_map (λ later. later) (map g parts))) part
+        (All-weaker (λ x. All (λ y. less y x ≡ false) (flat_map (λ later. later) parts)) (λ x. All (λ y. less y x ≡ false) (flat_map (λ later. later) (map g parts)))
+        (λ x e. later_within (λ y. less y x ≡ false) parts e) part h),
+    order_within less parts k,
+  )
 
 pub within : NodesWithinPartsKeepPlaces
 within n cut place.Any g parts only h = tt

@@ -1,18 +1,30 @@
 -- The laws of plans that the table of planning gives.
-use Rattle.std.specs.Prelude.{ℕ, suc, ◌+◌, ◌≡◌, ◌≤◌, ◌<◌, true, List, map, take, length, All, Contains, IsPermutation}
+use Rattle.std.specs.Prelude.{ℕ, suc, ◌+◌, ◌≡◌, ◌≤◌, ◌<◌, true, List, map, take, length, All, Contains, IsTrue, IsPermutation}
+use Rattle.aqe_base.specs.declared.join_kind.JoinKind.{JoinKind}
+use Rattle.aqe_base.specs.Joins.{may_build}
 use Rattle.aqe_logical.specs.declared.plan.AggCall.{AggCall}
+use Rattle.aqe_logical.specs.declared.plan.Logical.{Logical}
 use Rattle.aqe_expr.specs.declared.expr.Expr.{Expr}
 use Rattle.aqe_logical.specs.declared.plan.Placement.{Placement}
 use Rattle.aqe_logical.specs.declared.plan.Placement.TheVariants as place
-use Rattle.aqe_logical.specs.Answers.{Row}
+use Rattle.aqe_logical.specs.Answers.{Row, Tables, no_stage}
 use Rattle.aqe_logical.specs.Groups.{row_of, group_rows, finish_rows}
-use Rattle.aqe_logical.specs.WellFormed.{HaveWidth}
+use Rattle.aqe_logical.specs.WellFormed.{HaveWidth, WellFormed, Closed, LeavesFit}
 use Rattle.aqe_partial.specs.PartialRows.{joined_parts, partial_rows}
 use Rattle.aqe_places.specs.Places.{by_hash, exchanged}
 use Rattle.aqe_places.specs.Laws.{Placed}
+use Rattle.aqe_physical.specs.declared.target.JoinWay.{JoinWay}
+use Rattle.aqe_physical.specs.declared.target.JoinWay.TheVariants as way
+use Rattle.aqe_physical.specs.declared.plan.Plan.{Plan}
+use Rattle.aqe_physical.specs.Nodes.{nodes}
+use Rattle.aqe_stages.specs.Stages.{Stages}
+use Rattle.aqe_stages.specs.Stands.{StandsFor}
+use Rattle.aqe_fitting.specs.Planning.{Planned}
 use Rattle.aqe_fitting.specs.Keys.{columns_from}
 use Rattle.aqe_fitting.specs.Placing.{after_project, after_groups, keeps_groups}
 use Rattle.aqe_fit_laws.specs.Standing.{Cut, Stands, plainly}
+use Rattle.aqe_fit_laws.specs.Leaves.{held_rows, LeavesRight, ScansRight, ReadsPlain, PlannedYet}
+use Rattle.aqe_fit_laws.specs.Serving.{RunsAt, Serves}
 
 -- each row that a node leaves of a part is one of the part
 abbrev pub LeavesOnlyRows : (List Row → List Row) → Type 0
@@ -58,3 +70,23 @@ GroupsOfMovedParts = (n : ℕ) (key : Row → Row) (calls : List AggCall) (g : R
     ((row : Row) → length (key row) ≡ suc n) → ((k : Row) → g k < count) →
     IsPermutation (group_rows (suc n) key calls (joined_parts parts))
     (joined_parts (map (finish_rows (suc n) calls) (exchanged (λ row. g (take (suc n) row)) count (joined_parts (map (partial_rows (suc n) key calls) parts)))))
+
+-- any way whose built side may be built
+abbrev pub may_way : JoinKind → Logical → Logical → JoinWay → Type 0
+may_way kind x y (way.ShuffledHash side) = IsTrue (may_build kind side)
+may_way kind x y (way.Broadcast side) = IsTrue (may_build kind side)
+may_way kind x y how = Unit {0}
+
+-- A plan that the table of planning gives for a well-formed logical plan serves it: where the leaves are right, their rows are as wide as their
+-- fields, and reads are plain.
+abbrev pub PlansServe : Type 0
+PlansServe = (tables : Tables) (stages : Stages) (n : ℕ) (files : ℕ → ℕ) (x : Logical) (p : Plan) (w : Placement) →
+    1 ≤ n → WellFormed x → PlannedYet x → LeavesFit tables (held_rows tables stages) x → LeavesRight tables stages n files x → ReadsPlain stages p →
+    Planned may_way n files x p w → Serves tables stages n x p w
+
+-- The plan of a query reads no stage: over whatever stages, its rows are an answer of the query. The rows of tables are as wide as the
+-- fields of their scans, and each scan is told its table's number of files.
+abbrev pub PlansOfQueriesStand : Type 0
+PlansOfQueriesStand = (tables : Tables) (stages : Stages) (n : ℕ) (files : ℕ → ℕ) (x : Logical) (p : Plan) (w : Placement) →
+    1 ≤ n → WellFormed x → Closed x → PlannedYet x → LeavesFit tables no_stage x → ScansRight tables files x →
+    Planned may_way n files x p w → StandsFor tables stages p x × All (RunsAt tables stages) (nodes p)

@@ -1,5 +1,5 @@
 -- What is asked of the leaves of a logical plan, of the reads of the plan that is planned for it, and which plans are planned so far.
-use Rattle.std.specs.Prelude.{ℕ, ◌-◌, ◌≡◌, ◌≤◌, ◌<◌, List, [], length, slice_index_or, All}
+use Rattle.std.specs.Prelude.{ℕ, ◌-◌, ◌≡◌, ◌≤◌, ◌<◌, [], length, slice_index_or, All}
 use Rattle.aqe_rects.specs.Rectangles.{plain_rects}
 use Rattle.aqe_logical.specs.declared.plan.Placement.{Placement}
 use Rattle.aqe_logical.specs.declared.plan.Placement.TheVariants as place
@@ -14,7 +14,7 @@ use Rattle.aqe_physical.specs.declared.plan.Plan as plan
 use Rattle.aqe_physical.specs.declared.plan.Plan.{Plan}
 use Rattle.aqe_physical.specs.Nodes as physical
 use Rattle.aqe_physical.specs.Counts.{part_count}
-use Rattle.aqe_stages.specs.Stages.{Stage, Stages, Given, output_of}
+use Rattle.aqe_stages.specs.Stages.{Stage, Stages, output_of}
 use Rattle.aqe_stages.specs.Cells.{all_rows}
 use Rattle.aqe_stages.specs.Parts.{given_by}
 use Rattle.aqe_stages.specs.Runnable.{OfStage, reducers_of}
@@ -39,8 +39,15 @@ GivesPlace n to w = HasParts n to × (place_of to ≡ w)
 abbrev pub IsHeldAs : ℕ → Placement → Stage → Type 0
 IsHeldAs n w stage = (to : Target) × (stage.kind ≡ kind.Shuffle to) × GivesPlace n to w
 
--- Of each leaf: a scan reads a table that is there, and its number of files is told right. A held leaf has a stage, at its place.
--- Partial rows were moved as an exchange of groups moves them.
+-- a scan reads a table that is there, and its number of files is told right
+abbrev pub ScanIsRight : Tables → (ℕ → ℕ) → Logical → Type 0
+ScanIsRight tables files (Scan table schema) = (table < length tables) × (files table ≡ length (slice_index_or tables table []))
+ScanIsRight tables files node = Unit {0}
+
+abbrev pub ScansRight : Tables → (ℕ → ℕ) → Logical → Type 0
+ScansRight tables files x = All (ScanIsRight tables files) (nodes x)
+
+-- Of each leaf: scans are right. A held leaf has a stage, at its place. Partial rows were moved as an exchange of groups moves them.
 abbrev pub LeafIsRight : Tables → Stages → ℕ → (ℕ → ℕ) → Logical → Type 0
 LeafIsRight tables stages n files (Scan table schema) = (table < length tables) × (files table ≡ length (slice_index_or tables table []))
 LeafIsRight tables stages n files (Held stage place.Broadcast schema) = OfStage stages stage.0 (λ held. held.kind ≡ kind.Broadcast)

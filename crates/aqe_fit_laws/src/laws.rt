@@ -1,6 +1,6 @@
 //! Laws of the definitions, each the contract of a function that does nothing.
 
-ghost use Rattle.aqe_fit_laws.specs.Laws.{FinishedExchangesStand, GroupsMovePlaces, GroupsOfMovedParts, GroupsOfPlacedParts, GroupsOverAPlace, NodesWithinPartsKeepPlaces, ProjectsMovePlaces};
+ghost use Rattle.aqe_fit_laws.specs.Laws.{FinishedExchangesStand, GroupsMovePlaces, GroupsOfMovedParts, GroupsOfPlacedParts, GroupsOverAPlace, NodesWithinPartsKeepPlaces, PlansOfQueriesStand, PlansServe, ProjectsMovePlaces};
 
 /// What is done to each part by itself, and makes no new row, keeps every placement.
 pub fn nodes_within_parts_keep_places()
@@ -35,4 +35,14 @@ pub fn groups_over_a_place()
 /// Partial rows that are moved by their keys and then finished part by part are the groups of the whole.
 pub fn groups_of_moved_parts()
     ensures { GroupsOfMovedParts }
+{}
+
+/// A plan that the table of planning gives for a well-formed logical plan has an answer of it as its rows, stands as it is placed, and runs.
+pub fn plans_serve()
+    ensures { PlansServe }
+{}
+
+/// The rows of a plan of a query are an answer of the query, whatever stages there are; and it runs.
+pub fn plans_of_queries_stand()
+    ensures { PlansOfQueriesStand }
 {}

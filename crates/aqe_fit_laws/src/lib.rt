@@ -5,6 +5,6 @@ mod laws;
 
 pub use laws::{
     finished_exchanges_stand, groups_move_places, groups_of_moved_parts, groups_of_placed_parts,
-    groups_over_a_place,
-    nodes_within_parts_keep_places, projects_move_places,
+    groups_over_a_place, nodes_within_parts_keep_places, plans_of_queries_stand, plans_serve,
+    projects_move_places,
 };
