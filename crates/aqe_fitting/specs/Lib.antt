@@ -1,3 +1,10 @@
 pub mod Keys
 pub mod Placing
 pub mod Planning
+pub mod InForce
+pub mod Known
+pub mod Ways
+pub mod Strands
+pub mod ReadsFit
+pub mod Fits
+pub mod Laws
