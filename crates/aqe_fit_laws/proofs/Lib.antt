@@ -9,3 +9,4 @@ pub mod NodeServes
 pub mod HeldServes
 pub mod PlansServe
 pub mod QueriesStand
+pub mod FittingServes

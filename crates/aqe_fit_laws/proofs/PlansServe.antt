@@ -22,7 +22,8 @@ use Rattle.aqe_fitting.specs.Placing.{after_groups, groups_of, serves, keeps_gro
 use Rattle.aqe_fitting.specs.Planning.{Planned, a_row, a_scan, a_nothing, a_read, a_whole_read, a_filter, a_project, by_parts, by_whole_right, by_whole_left, by_loop, groups_here, groups_moved, groups_read, a_union, sort_here, sort_moved, limit_here, limit_moved, skip_moved, a_sampled}
 use Rattle.aqe_fit_laws.specs.Leaves.{held_rows, LeafIsRight, IsHeldAs, IsPlainRead, IsPlannedYet}
 use Rattle.aqe_fit_laws.specs.Serving.{KeysOver, RunsAt}
-use Rattle.aqe_fit_laws.specs.Laws.{PlansServe, may_way}
+use Rattle.aqe_fitting.specs.Laws.{may_be_built}
+use Rattle.aqe_fit_laws.specs.Laws.{PlansServe}
 use Rattle.aqe_fit_laws.proofs.NodeServes.{Fine, Served, a_row_serves, a_scan_serves, a_filter_serves, a_project_serves, groups_here_serve, groups_in_one_serve, groups_moved_serve}
 use Rattle.aqe_fit_laws.proofs.HeldServes.{a_read_serves, groups_read_serve}
 
@@ -137,7 +138,7 @@ module _ (tables : Tables) (stages : Stages) (n : ℕ) (files : ℕ → ℕ) (so
 
 pub plans_serve : PlansServe
 plans_serve tables stages n files x p w some formed yet fits right plain planned =
-    let served = serve tables stages n files some may_way x p w planned (each IsPlannedYet x yet)
+    let served = serve tables stages n files some may_be_built x p w planned (each IsPlannedYet x yet)
     (record { sound = each IsSound x formed.0; few = formed.1; fits = each (Fits tables (held_rows tables stages)) x fits; right = each (LeafIsRight tables stages n files) x right })
     (physical.each (IsPlainRead stages) p plain) in
     record { answers = served.answers; stands = served.stands; over = served.over; runs = physical.all_nodes (RunsAt tables stages) p served.runs }

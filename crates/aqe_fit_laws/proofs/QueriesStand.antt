@@ -17,7 +17,8 @@ use Rattle.aqe_fitting.specs.Planning.{Planned, Brought, stays, goes, a_row, a_s
 use Rattle.aqe_fitting.specs.Placing.{Asks}
 use Rattle.aqe_physical.specs.declared.target.Target.{Target}
 use Rattle.aqe_fit_laws.specs.Leaves.{held_rows, ScanIsRight, LeafIsRight, IsPlainRead}
-use Rattle.aqe_fit_laws.specs.Laws.{PlansOfQueriesStand, may_way}
+use Rattle.aqe_fitting.specs.Laws.{may_be_built}
+use Rattle.aqe_fit_laws.specs.Laws.{PlansOfQueriesStand}
 use Rattle.aqe_fit_laws.proofs.PlansServe.{plans_serve}
 
 module _ (tables : Tables) where
@@ -94,5 +95,5 @@ queries_stand tables stages n files x p w some formed closed yet fits right plan
     let served = plans_serve tables stages n files x p w some formed yet
     (all_nodes (Fits tables (held_rows tables stages)) x (fit_still tables no_stage (held_rows tables stages) x query (each (Fits tables no_stage) x fits)))
     (all_nodes (LeafIsRight tables stages n files) x (leaves_right tables stages n files x query (each (ScanIsRight tables files) x right)))
-    (physical.all_nodes (IsPlainRead stages) p (no_reads tables stages n files may_way x p w planned query)) planned in
+    (physical.all_nodes (IsPlainRead stages) p (no_reads tables stages n files may_be_built x p w planned query)) planned in
     (closed_alike tables (held_rows tables stages) no_stage x (all tables stages p) closed served.answers, served.runs)

@@ -1,7 +1,5 @@
 -- The laws of plans that the table of planning gives.
-use Rattle.std.specs.Prelude.{ℕ, suc, ◌+◌, ◌≡◌, ◌≤◌, ◌<◌, true, List, map, take, length, All, Contains, IsTrue, IsPermutation}
-use Rattle.aqe_base.specs.declared.join_kind.JoinKind.{JoinKind}
-use Rattle.aqe_base.specs.Joins.{may_build}
+use Rattle.std.specs.Prelude.{ℕ, suc, ◌+◌, ◌≡◌, ◌≤◌, ◌<◌, Bool, true, false, List, map, take, length, All, Contains, IsPermutation}
 use Rattle.aqe_logical.specs.declared.plan.AggCall.{AggCall}
 use Rattle.aqe_logical.specs.declared.plan.Logical.{Logical}
 use Rattle.aqe_expr.specs.declared.expr.Expr.{Expr}
@@ -13,17 +11,24 @@ use Rattle.aqe_logical.specs.WellFormed.{HaveWidth, WellFormed, Closed, LeavesFi
 use Rattle.aqe_partial.specs.PartialRows.{joined_parts, partial_rows}
 use Rattle.aqe_places.specs.Places.{by_hash, exchanged}
 use Rattle.aqe_places.specs.Laws.{Placed}
-use Rattle.aqe_physical.specs.declared.target.JoinWay.{JoinWay}
-use Rattle.aqe_physical.specs.declared.target.JoinWay.TheVariants as way
 use Rattle.aqe_physical.specs.declared.plan.Plan.{Plan}
 use Rattle.aqe_physical.specs.Nodes.{nodes}
 use Rattle.aqe_stages.specs.Stages.{Stages}
 use Rattle.aqe_stages.specs.Stands.{StandsFor}
+use Rattle.aqe_settings.specs.declared.entry.Value.{Value}
+use Rattle.aqe_settings.specs.declared.key.SettingKey.TheVariants as key
+use Rattle.aqe_settings.specs.Values.{value_of, is_on, partitions}
+use Rattle.aqe_physical.specs.declared.sizes.Estimate.{Estimate}
+use Rattle.aqe_physical.specs.declared.sizes.StageSize.{StageSize}
+use Rattle.aqe_fitting.specs.InForce.{in_force}
+use Rattle.aqe_fitting.specs.Known.{files_of}
+use Rattle.aqe_fitting.specs.Fits.{Fits}
+use Rattle.aqe_fitting.specs.Laws.{may_be_built}
 use Rattle.aqe_fitting.specs.Planning.{Planned}
 use Rattle.aqe_fitting.specs.Keys.{columns_from}
 use Rattle.aqe_fitting.specs.Placing.{after_project, after_groups, keeps_groups}
 use Rattle.aqe_fit_laws.specs.Standing.{Cut, Stands, plainly}
-use Rattle.aqe_fit_laws.specs.Leaves.{held_rows, LeavesRight, ScansRight, ReadsPlain, PlannedYet}
+use Rattle.aqe_fit_laws.specs.Leaves.{held_rows, LeavesRight, ScansRight, SizesRight, ReadsPlain, PlannedYet}
 use Rattle.aqe_fit_laws.specs.Serving.{RunsAt, Serves}
 
 -- each row that a node leaves of a part is one of the part
@@ -71,22 +76,33 @@ GroupsOfMovedParts = (n : ℕ) (key : Row → Row) (calls : List AggCall) (g : R
     IsPermutation (group_rows (suc n) key calls (joined_parts parts))
     (joined_parts (map (finish_rows (suc n) calls) (exchanged (λ row. g (take (suc n) row)) count (joined_parts (map (partial_rows (suc n) key calls) parts)))))
 
--- any way whose built side may be built
-abbrev pub may_way : JoinKind → Logical → Logical → JoinWay → Type 0
-may_way kind x y (way.ShuffledHash side) = IsTrue (may_build kind side)
-may_way kind x y (way.Broadcast side) = IsTrue (may_build kind side)
-may_way kind x y how = Unit {0}
-
 -- A plan that the table of planning gives for a well-formed logical plan serves it: where the leaves are right, their rows are as wide as their
 -- fields, and reads are plain.
 abbrev pub PlansServe : Type 0
 PlansServe = (tables : Tables) (stages : Stages) (n : ℕ) (files : ℕ → ℕ) (x : Logical) (p : Plan) (w : Placement) →
     1 ≤ n → WellFormed x → PlannedYet x → LeavesFit tables (held_rows tables stages) x → LeavesRight tables stages n files x → ReadsPlain stages p →
-    Planned may_way n files x p w → Serves tables stages n x p w
+    Planned may_be_built n files x p w → Serves tables stages n x p w
 
 -- The plan of a query reads no stage: over whatever stages, its rows are an answer of the query. The rows of tables are as wide as the
 -- fields of their scans, and each scan is told its table's number of files.
 abbrev pub PlansOfQueriesStand : Type 0
 PlansOfQueriesStand = (tables : Tables) (stages : Stages) (n : ℕ) (files : ℕ → ℕ) (x : Logical) (p : Plan) (w : Placement) →
     1 ≤ n → WellFormed x → Closed x → PlannedYet x → LeavesFit tables no_stage x → ScansRight tables files x →
-    Planned may_way n files x p w → StandsFor tables stages p x × All (RunsAt tables stages) (nodes p)
+    Planned may_be_built n files x p w → StandsFor tables stages p x × All (RunsAt tables stages) (nodes p)
+
+-- whether the rest of a plan is planned again as sizes come in
+abbrev pub plans_again : List Value → Bool
+plans_again settings = is_on (value_of key.Enabled (in_force settings))
+
+-- A plan that fits serves, where nothing is planned again, so that its reads are plain. What is known of tables and stages has to be right.
+abbrev pub FittingPlansServe : Type 0
+FittingPlansServe = (tables : Tables) (stages : Stages) (p : Plan) (x : Logical) (estimates : List Estimate) (sizes : List StageSize) (settings : List Value) →
+    1 ≤ partitions settings → plans_again settings ≡ false → WellFormed x → PlannedYet x → LeavesFit tables (held_rows tables stages) x →
+    LeavesRight tables stages (partitions settings) (files_of estimates) x → SizesRight stages sizes x → Fits p x estimates sizes settings →
+    (place : Placement) × Serves tables stages (partitions settings) x p place
+
+-- A plan that fits a query stands for it over whatever stages, and runs, whatever the settings are.
+abbrev pub FittingPlansStand : Type 0
+FittingPlansStand = (tables : Tables) (stages : Stages) (p : Plan) (x : Logical) (estimates : List Estimate) (sizes : List StageSize) (settings : List Value) →
+    1 ≤ partitions settings → WellFormed x → Closed x → PlannedYet x → LeavesFit tables no_stage x → ScansRight tables (files_of estimates) x →
+    Fits p x estimates sizes settings → StandsFor tables stages p x × All (RunsAt tables stages) (nodes p)

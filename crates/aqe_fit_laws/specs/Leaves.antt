@@ -1,5 +1,5 @@
 -- What is asked of the leaves of a logical plan, of the reads of the plan that is planned for it, and which plans are planned so far.
-use Rattle.std.specs.Prelude.{ℕ, ◌-◌, ◌≡◌, ◌≤◌, ◌<◌, [], length, slice_index_or, All}
+use Rattle.std.specs.Prelude.{ℕ, ◌-◌, ◌≡◌, ◌≤◌, ◌<◌, List, [], length, slice_index_or, All}
 use Rattle.aqe_rects.specs.Rectangles.{plain_rects}
 use Rattle.aqe_logical.specs.declared.plan.Placement.{Placement}
 use Rattle.aqe_logical.specs.declared.plan.Placement.TheVariants as place
@@ -18,6 +18,9 @@ use Rattle.aqe_stages.specs.Stages.{Stage, Stages, output_of}
 use Rattle.aqe_stages.specs.Cells.{all_rows}
 use Rattle.aqe_stages.specs.Parts.{given_by}
 use Rattle.aqe_stages.specs.Runnable.{OfStage, reducers_of}
+use Rattle.aqe_base.specs.declared.stage_id.StageId.{StageId}
+use Rattle.aqe_physical.specs.declared.sizes.StageSize.{StageSize}
+use Rattle.aqe_fitting.specs.Known.{entry_of, maps_in, reducers_in}
 use Rattle.aqe_fitting.specs.Placing.{place_of, groups_target}
 
 -- the rows that stages hold, as a logical plan reads them
@@ -58,6 +61,19 @@ LeafIsRight tables stages n files node = Unit {0}
 
 abbrev pub LeavesRight : Tables → Stages → ℕ → (ℕ → ℕ) → Logical → Type 0
 LeavesRight tables stages n files x = All (LeafIsRight tables stages n files) (nodes x)
+
+-- the sizes of a stage that a leaf is held by say how many maps and reducers it has
+abbrev pub SizeIsRight : Stages → List StageSize → StageId → Type 0
+SizeIsRight stages sizes stage =
+    OfStage stages stage.0 (λ made. (maps_in (entry_of sizes stage) ≡ part_count made.body) × (reducers_in (entry_of sizes stage) ≡ reducers_of made.kind))
+
+abbrev pub LeafSizeIsRight : Stages → List StageSize → Logical → Type 0
+LeafSizeIsRight stages sizes (Held stage w schema) = SizeIsRight stages sizes stage
+LeafSizeIsRight stages sizes (HeldPartial stage calls schema) = SizeIsRight stages sizes stage
+LeafSizeIsRight stages sizes node = Unit {0}
+
+abbrev pub SizesRight : Stages → List StageSize → Logical → Type 0
+SizesRight stages sizes x = All (LeafSizeIsRight stages sizes) (nodes x)
 
 -- a read has the number of maps and of reducers of its stage, and reads it plainly: a part for each reducer, with all maps
 abbrev pub IsPlainRead : Stages → Plan → Type 0

@@ -1,6 +1,6 @@
 //! Laws of the definitions, each the contract of a function that does nothing.
 
-ghost use Rattle.aqe_fit_laws.specs.Laws.{FinishedExchangesStand, GroupsMovePlaces, GroupsOfMovedParts, GroupsOfPlacedParts, GroupsOverAPlace, NodesWithinPartsKeepPlaces, PlansOfQueriesStand, PlansServe, ProjectsMovePlaces};
+ghost use Rattle.aqe_fit_laws.specs.Laws.{FinishedExchangesStand, FittingPlansServe, FittingPlansStand, GroupsMovePlaces, GroupsOfMovedParts, GroupsOfPlacedParts, GroupsOverAPlace, NodesWithinPartsKeepPlaces, PlansOfQueriesStand, PlansServe, ProjectsMovePlaces};
 
 /// What is done to each part by itself, and makes no new row, keeps every placement.
 pub fn nodes_within_parts_keep_places()
@@ -45,4 +45,14 @@ pub fn plans_serve()
 /// The rows of a plan of a query are an answer of the query, whatever stages there are; and it runs.
 pub fn plans_of_queries_stand()
     ensures { PlansOfQueriesStand }
+{}
+
+/// A plan that fits serves its logical plan, where nothing is planned again.
+pub fn fitting_plans_serve()
+    ensures { FittingPlansServe }
+{}
+
+/// A plan that fits a query stands for it, whatever stages there are and whatever the settings.
+pub fn fitting_plans_stand()
+    ensures { FittingPlansStand }
 {}
