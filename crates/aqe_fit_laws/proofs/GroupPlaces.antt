@@ -98,7 +98,7 @@ module _ (n : ℕ) (cut : Cut) (calls : List AggCall) (parts : List (List Row)) 
 pub over_a_place : GroupsOverAPlace
 over_a_place n cut keys calls w parts s h = groups_over n cut calls parts keys w s h
 
-all_both : {X : Type 0} (P Q : X → Type 0) (xs : List X) → All P xs → All Q xs → All (λ x. P x × Q x) xs
+pub all_both : {X : Type 0} (P Q : X → Type 0) (xs : List X) → All P xs → All Q xs → All (λ x. P x × Q x) xs
 all_both P Q [] h k = All-nil (λ x. P x × Q x)
 all_both P Q (x ∷ xs) h k =
     All-cons (λ y. P y × Q y) x xs (All-head P x xs h, All-head Q x xs k) (all_both P Q xs (All-tail P x xs h) (All-tail Q x xs k))

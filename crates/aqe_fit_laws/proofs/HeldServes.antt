@@ -36,6 +36,7 @@ use Rattle.aqe_fitting.specs.Keys.{columns_from}
 use Rattle.aqe_fitting.specs.Placing.{place_of, groups_target}
 use Rattle.aqe_fit_laws.specs.Standing.{Stands, plainly}
 use Rattle.aqe_fit_laws.specs.Leaves.{held_rows, HasParts, GivesPlace, IsHeldAs, IsPlainRead}
+use Rattle.aqe_fit_laws.specs.Laws.{PlainReadsServe}
 use Rattle.aqe_fit_laws.specs.Serving.{KeysOver}
 use Rattle.aqe_fit_laws.proofs.Together.{moved_finish, finish_permuted}
 use Rattle.aqe_fit_laws.proofs.Respelled.{columns_of_front, columns_below}
@@ -193,3 +194,18 @@ module _ (tables : Tables) (stages : Stages) (n : ℕ) (files : ℕ → ℕ) (so
         (subst (λ (ps : List (List Row)). Stands n (plainly n) (place.Hash cols) (map (finish_rows (suc k) calls) ps)) (sym r.reads)
         (finished_stand n k calls rows (partials (suc k) e rows (body_rows (target.Hash cols n) refl is))))
         (columns_below 0 (suc k) (length schema) (omega (arith, e)))
+
+-- the read of a stage that was made for a place
+pub plain_serve : PlainReadsServe
+plain_serve tables stages n stage maps reducers rects w some right plain = at (some_stage stages stage.0 n w right)
+  where
+    at : (to : Target) × GivesPlace n to w × OfStage stages stage.0 (λ read. read.kind ≡ kind.Shuffle to) →
+        IsPermutation (held_rows tables stages stage.0) (all tables stages (plan.Read stage maps reducers rects)) ×
+        InItsOrder w (held_rows tables stages stage.0) (all tables stages (plan.Read stage maps reducers rects)) ×
+        Stands n (plainly n) w (parts tables (given_by tables stages) (plan.Read stage maps reducers rects))
+    at (to, gives, is) =
+        let has : HasParts n to = has_parts [] [] n some to w gives in (
+          read_rows tables stages n (λ t. 0) some stage maps reducers rects plain to has is,
+          read_order tables stages n (λ t. 0) some stage maps reducers rects plain to has is w gives,
+          read_stands tables stages n (λ t. 0) some stage maps reducers rects plain to has is w gives,
+        )

@@ -10,3 +10,4 @@ pub mod HeldServes
 pub mod PlansServe
 pub mod QueriesStand
 pub mod FittingServes
+pub mod Bodies

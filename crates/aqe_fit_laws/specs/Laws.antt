@@ -5,16 +5,20 @@ use Rattle.aqe_logical.specs.declared.plan.Logical.{Logical}
 use Rattle.aqe_expr.specs.declared.expr.Expr.{Expr}
 use Rattle.aqe_logical.specs.declared.plan.Placement.{Placement}
 use Rattle.aqe_logical.specs.declared.plan.Placement.TheVariants as place
-use Rattle.aqe_logical.specs.Answers.{Row, Tables, no_stage}
+use Rattle.aqe_logical.specs.Answers.{Row, Tables, InItsOrder, no_stage}
 use Rattle.aqe_logical.specs.Groups.{row_of, group_rows, finish_rows}
 use Rattle.aqe_logical.specs.WellFormed.{HaveWidth, WellFormed, Closed, LeavesFit}
 use Rattle.aqe_partial.specs.PartialRows.{joined_parts, partial_rows}
 use Rattle.aqe_places.specs.Places.{by_hash, exchanged}
 use Rattle.aqe_places.specs.Laws.{Placed}
-use Rattle.aqe_physical.specs.declared.plan.Plan.{Plan}
+use Rattle.aqe_physical.specs.declared.plan.Plan.{Plan, Read}
 use Rattle.aqe_physical.specs.Nodes.{nodes}
 use Rattle.aqe_stages.specs.Stages.{Stages}
 use Rattle.aqe_stages.specs.Stands.{StandsFor}
+use Rattle.aqe_stages.specs.Parts.{parts, given_by, all}
+use Rattle.aqe_stages.specs.Runnable.{OfStage, Runnable}
+use Rattle.aqe_base.specs.declared.stage_id.StageId.{StageId}
+use Rattle.aqe_base.specs.declared.cells.Rect.{Rect}
 use Rattle.aqe_settings.specs.declared.entry.Value.{Value}
 use Rattle.aqe_settings.specs.declared.key.SettingKey.TheVariants as key
 use Rattle.aqe_settings.specs.Values.{value_of, is_on, partitions}
@@ -28,8 +32,8 @@ use Rattle.aqe_fitting.specs.Planning.{Planned}
 use Rattle.aqe_fitting.specs.Keys.{columns_from}
 use Rattle.aqe_fitting.specs.Placing.{after_project, after_groups, keeps_groups}
 use Rattle.aqe_fit_laws.specs.Standing.{Cut, Stands, plainly}
-use Rattle.aqe_fit_laws.specs.Leaves.{held_rows, LeavesRight, ScansRight, SizesRight, ReadsPlain, PlannedYet}
-use Rattle.aqe_fit_laws.specs.Serving.{RunsAt, Serves}
+use Rattle.aqe_fit_laws.specs.Leaves.{held_rows, IsHeldAs, IsPlainRead, LeavesRight, ScansRight, SizesRight, ReadsPlain, PlannedYet}
+use Rattle.aqe_fit_laws.specs.Serving.{RunsAt, WithoutExchange, Serves}
 
 -- each row that a node leaves of a part is one of the part
 abbrev pub LeavesOnlyRows : (List Row → List Row) → Type 0
@@ -75,6 +79,20 @@ GroupsOfMovedParts = (n : ℕ) (key : Row → Row) (calls : List AggCall) (g : R
     ((row : Row) → length (key row) ≡ suc n) → ((k : Row) → g k < count) →
     IsPermutation (group_rows (suc n) key calls (joined_parts parts))
     (joined_parts (map (finish_rows (suc n) calls) (exchanged (λ row. g (take (suc n) row)) count (joined_parts (map (partial_rows (suc n) key calls) parts)))))
+
+-- the plain read of a stage that was made for a place has the rows that the stage holds, in their order where they are in one part, and its
+-- parts stand at that place
+abbrev pub PlainReadsServe : Type 0
+PlainReadsServe = (tables : Tables) (stages : Stages) (n : ℕ) (stage : StageId) (maps reducers : ℕ) (rects : List Rect) (place : Placement) →
+    1 ≤ n → OfStage stages stage.0 (IsHeldAs n place) → IsPlainRead stages (Read stage maps reducers rects) →
+    IsPermutation (held_rows tables stages stage.0) (all tables stages (Read stage maps reducers rects)) ×
+    InItsOrder place (held_rows tables stages stage.0) (all tables stages (Read stage maps reducers rects)) ×
+    Stands n (plainly n) place (parts tables (given_by tables stages) (Read stage maps reducers rects))
+
+-- where a plan runs apart from its exchanges, each part of it without an exchange is a body that a task can run
+abbrev pub PartsWithoutExchangeRun : Type 0
+PartsWithoutExchangeRun = (tables : Tables) (stages : Stages) (p : Plan) →
+    All (RunsAt tables stages) (nodes p) → All (λ body. WithoutExchange body → Runnable tables stages body) (nodes p)
 
 -- A plan that the table of planning gives for a well-formed logical plan serves it: where the leaves are right, their rows are as wide as their
 -- fields, and reads are plain.

@@ -43,3 +43,11 @@ pub record Serves (tables : Tables) (stages : Stages) (n : ℕ) (x : Logical) (p
   pub stands : Stands n (plainly n) w (parts tables (given_by tables stages) p)
   pub over : KeysOver (width x) w
   pub runs : All (RunsAt tables stages) (nodes p)
+
+-- a plan without an exchange, as the body of a stage is
+abbrev pub IsNoExchange : Plan → Type 0
+IsNoExchange (moved to child) = ⊥
+IsNoExchange node = Unit {0}
+
+abbrev pub WithoutExchange : Plan → Type 0
+WithoutExchange p = All IsNoExchange (nodes p)

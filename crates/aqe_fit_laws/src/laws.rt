@@ -1,6 +1,6 @@
 //! Laws of the definitions, each the contract of a function that does nothing.
 
-ghost use Rattle.aqe_fit_laws.specs.Laws.{FinishedExchangesStand, FittingPlansServe, FittingPlansStand, GroupsMovePlaces, GroupsOfMovedParts, GroupsOfPlacedParts, GroupsOverAPlace, NodesWithinPartsKeepPlaces, PlansOfQueriesStand, PlansServe, ProjectsMovePlaces};
+ghost use Rattle.aqe_fit_laws.specs.Laws.{FinishedExchangesStand, FittingPlansServe, FittingPlansStand, GroupsMovePlaces, GroupsOfMovedParts, GroupsOfPlacedParts, GroupsOverAPlace, NodesWithinPartsKeepPlaces, PartsWithoutExchangeRun, PlainReadsServe, PlansOfQueriesStand, PlansServe, ProjectsMovePlaces};
 
 /// What is done to each part by itself, and makes no new row, keeps every placement.
 pub fn nodes_within_parts_keep_places()
@@ -55,4 +55,14 @@ pub fn fitting_plans_serve()
 /// A plan that fits a query stands for it, whatever stages there are and whatever the settings.
 pub fn fitting_plans_stand()
     ensures { FittingPlansStand }
+{}
+
+/// The plain read of a stage that was made for a place has the rows that the stage holds, and its parts stand at that place.
+pub fn plain_reads_serve()
+    ensures { PlainReadsServe }
+{}
+
+/// Where a plan runs apart from its exchanges, each part of it without an exchange is a body that a task can run.
+pub fn parts_without_exchange_run()
+    ensures { PartsWithoutExchangeRun }
 {}
