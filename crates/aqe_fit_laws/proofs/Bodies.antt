@@ -1,6 +1,4 @@
 -- Parts of a plan without an exchange can be run.
-use Rattle.std.proofs.Common.{◌++◌}
-use Rattle.std.specs.Prelude.{All}
 use Rattle.std.proofs.lemmas.List.Elements.{All-weaker}
 use Rattle.aqe_logical.specs.Answers.{Tables}
 use Rattle.aqe_physical.specs.declared.plan.Plan.{Plan, OneRow, Scan, Nothing, Read, ReadBroadcast}
