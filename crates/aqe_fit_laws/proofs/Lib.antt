@@ -1,0 +1,13 @@
+pub mod Within
+pub mod Together
+pub mod Respelled
+pub mod Projected
+pub mod GroupPlaces
+pub mod ReadPlainly
+pub mod Widths
+pub mod NodeServes
+pub mod HeldServes
+pub mod PlansServe
+pub mod QueriesStand
+pub mod FittingServes
+pub mod Bodies

@@ -1,0 +1,4 @@
+pub mod Standing
+pub mod Leaves
+pub mod Serving
+pub mod Laws
