@@ -1,7 +1,7 @@
 -- What makes the record of a query legal. A record is legal where a run that keeps the rules below comes to a state in which the
 -- query is finished, and the record shows what that state says. The rules stand here in nine parts, each with a name of its own.
-use Rattle.std.specs.Prelude.{◌≡◌, ℕ, suc, Bool, true, false, if◌then◌else◌, nat_le, List, [], ◌∷◌, ◌++◌, map, filter, length, find, Option, Some, None, option_map, slice_get, slice_index_or, ◌&&◌, cond}
-use Rattle.std.specs.Option.{or_else}
+use Rattle.std.specs.Prelude.{◌≡◌, ℕ, suc, Bool, true, false, if◌then◌else◌, nat_le, List, [], ◌∷◌, ◌++◌, map, filter, fold, length, find, Option, Some, None, option_map, slice_get, slice_index_or, ◌&&◌, cond}
+use Rattle.std.specs.Option.{option_or}
 use Rattle.std.specs.List.{list_any, range_with_len}
 use Rattle.aqe_base.specs.declared.event.Event.{Event}
 use Rattle.aqe_base.specs.declared.event.Event.TheVariants.{Ended}
@@ -20,7 +20,7 @@ use Rattle.aqe_scheduler.specs.Looks.{births, counted, fails, streak}
 use Rattle.aqe_scheduler.specs.Fates.{fates}
 use Rattle.aqe_scheduler.specs.Rest.{places, rest_of, rest_ending}
 use Rattle.aqe_fitting.specs.Fits.{Fits}
-use Rattle.aqe_making.specs.Making.{Next, NoneLeft}
+use Rattle.aqe_making.specs.Makings.{all_makings}
 use Rattle.aqe_journal.specs.declared.record.Finish.{Finish}
 use Rattle.aqe_journal.specs.declared.record.Finish.TheVariants as finish
 use Rattle.aqe_journal.specs.declared.record.RunNote.{RunNote}
@@ -51,14 +51,13 @@ next_event asked now = event_or_rest (slice_get asked.events (position now)) ask
 abbrev pub IsFirst : Asked → Plan → Type 0
 IsFirst asked plan = Fits plan asked.query asked.estimates [] asked.settings
 
--- 3. and 5. Stages are made one by one, as long as one can be made: of the exchanges that can be made, and of the samples, the next one
--- in their order, or at last the result. Each takes the next number. In the current plan the exchange becomes the plain read of its
--- stage, and a range names its sample; in the current logical plan a leaf that the stage holds stands in its place.
-pub data Settles : State → State → Type 0 where
-  none_left : (now : State) → NoneLeft (is_materialised now) now.stages now.plan → Settles now now
-  one_more : (now end : State) (stage : Stage) (logical : Logical) (plan : Plan) →
-      Next (is_materialised now) now.stages now.logical now.plan stage logical plan →
-      Settles (with_stage now stage logical plan) end → Settles now end
+-- 3. and 5. The stages that can be made at a position are made, one after the other in their order: of the exchanges whose parts are
+-- ready, of the samples, and at last of the result. The current plans follow.
+abbrev pub has_result : Stages → Bool
+has_result stages = list_any (λ (stage : Stage). is_result stage.kind) stages
+
+abbrev pub settled : State → State
+settled now = fold with_stage now (all_makings (is_materialised now) (has_result now.stages) now.plan)
 
 -- 4. At a turning point the query is planned again, if adaptive execution is on: the candidate fits what is left of the current logical
 -- plan without its empty relations, by the sizes that are known. It is adopted where it is better than the current plan; else all
@@ -78,8 +77,8 @@ pub data PlansAgain (asked : Asked) : State → State → Type 0 where
 -- not, by the current plan.
 pub data Takes (asked : Asked) : State → Event → State → Type 0 where
   goes_on : (now : State) (event : Event) → is_turning now event ≡ false → Takes asked now event (with_marks (with_event now event))
-  turns : (now planned settled : State) (event : Event) → is_turning now event ≡ true →
-      PlansAgain asked (with_event now event) planned → Settles planned settled → Takes asked now event (with_marks settled)
+  turns : (now planned : State) (event : Event) → is_turning now event ≡ true →
+      PlansAgain asked (with_event now event) planned → Takes asked now event (with_marks (settled planned))
 
 -- 8. How a query ends. It is aborted as soon as a task has failed as often as a task may, or a stage's tasks have failed to fetch as
 -- often in a row as they may; it is done as soon as its result stage is whole. No event is taken after that.
@@ -108,13 +107,13 @@ unfinished place = finish.Unfinished (record { 0 = place.0 }) (record { 0 = plac
 -- what the query has reached: nothing yet, or one of these three ends
 abbrev pub reached : Asked → State → Option Finish
 reached asked now =
-    or_else (option_map aborted (failed_task asked (history now)))
-        (or_else (option_map stage_aborted (failed_stage asked (history now)))
+    option_or (option_map aborted (failed_task asked (history now)))
+        (option_or (option_map stage_aborted (failed_stage asked (history now)))
             (cond (is_done now) (Some finish.Done) None))
 
 -- The states that a query's run comes to: it settles at position 0, and takes an event after the other until it has reached an end.
 pub data SoFar (asked : Asked) : State → Type 0 where
-  begun : (plan : Plan) (settled : State) → IsFirst asked plan → Settles (first_state asked.query plan) settled → SoFar asked (with_marks settled)
+  begun : (plan : Plan) → IsFirst asked plan → SoFar asked (with_marks (settled (first_state asked.query plan)))
   one_on : (now next : State) (event : Event) → SoFar asked now → reached asked now ≡ None → next_event asked now ≡ Some event →
       Takes asked now event next → SoFar asked next
 

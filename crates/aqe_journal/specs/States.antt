@@ -2,9 +2,13 @@
 use Rattle.std.specs.Prelude.{ℕ, suc, Bool, cond, not, ◌&&◌, List, [], ◌∷◌, ◌++◌, length, find, Option, Some, None}
 use Rattle.std.specs.List.{list_any, range_with_len}
 use Rattle.aqe_base.specs.declared.event.Event.{Event}
+use Rattle.aqe_base.specs.declared.stage_id.StageId.{StageId}
 use Rattle.aqe_logical.specs.declared.plan.Logical.{Logical}
 use Rattle.aqe_physical.specs.declared.plan.Plan.{Plan}
-use Rattle.aqe_stages.specs.Stages.{Stage, Stages}
+use Rattle.aqe_stages.specs.Stages.{Stages}
+use Rattle.aqe_making.specs.Makings.{Making}
+use Rattle.aqe_making.specs.After.{after}
+use Rattle.aqe_making.specs.Held.{logical_after}
 use Rattle.aqe_scheduler.specs.History.{Entry, Adds, Marks, Happens, Step}
 use Rattle.aqe_scheduler.specs.Looks.{whole}
 use Rattle.aqe_scheduler.specs.Positions.{upto}
@@ -52,12 +56,17 @@ first_state query plan = record {
     versions = record { position = 0; logical = query; plan = plan } ∷ [];
     stages = []; entries = [] }
 
--- a stage more, and the current plans after it
-abbrev pub with_stage : State → Stage → Logical → Plan → State
-with_stage now stage logical plan = record now {
-    logical = logical; plan = plan;
-    stages = now.stages ++ stage ∷ [];
-    entries = now.entries ++ Adds (birth_over now.stages stage) ∷ [] }
+-- A stage more, which takes the next number. In the current plan its exchange becomes its plain read, and a range names its sample;
+-- in the current logical plan a leaf that the stage holds stands in its place. Of the result both plans stay.
+abbrev pub number_of : ℕ → StageId
+number_of n = record { 0 = n }
+
+abbrev pub with_stage : State → Making → State
+with_stage now making = record now {
+    logical = logical_after (number_of (length now.stages)) now.logical making.place now.plan;
+    plan = after (number_of (length now.stages)) making.place now.plan;
+    stages = now.stages ++ making.stage ∷ [];
+    entries = now.entries ++ Adds (birth_over now.stages making.stage) ∷ [] }
 
 -- a version more
 abbrev pub with_version : State → Logical → Plan → State
