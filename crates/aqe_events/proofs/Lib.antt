@@ -1,0 +1,2 @@
+mod KnownAnswers
+mod OneReading

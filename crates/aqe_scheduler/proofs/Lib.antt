@@ -1,0 +1,12 @@
+mod Behind
+mod Born
+mod Edits
+mod Events
+mod Follow
+mod Fronts
+mod KnownAnswers
+mod Ranges
+mod Ready
+mod Runs
+mod Tables
+mod Taken

@@ -1,0 +1,12 @@
+use Rattle.std.proofs.Common.{sym}
+use Rattle.aqe_scheduler.specs.Changes.{bereft}
+use Rattle.aqe_scheduler.proofs.Edits.{edited_at, edited_outside}
+use Rattle.aqe_scheduler.proofs.settle.take_output.Goals as goal
+
+pub returns-then-place-stages : goal.returns-then-place-stages
+returns-then-place-stages c =
+    rw (← c.index-stages-place.is, c.take_output.ensures, ← c.index-stages-place.is)
+    (edited_at (bereft c.args.map.0) c.args.stages.now c.args.stage.0 c.index-stages-place.result c.if-place-stages.true c.index-stages-place.is)
+
+pub returns-else-place-stages : goal.returns-else-place-stages
+returns-else-place-stages c = sym (edited_outside (bereft c.args.map.0) c.args.stages.now c.args.stage.0 c.if-place-stages.false)

@@ -1,0 +1,11 @@
+pub mod Bounds
+pub mod Fates
+pub mod History
+pub mod Looks
+pub mod Positions
+pub mod Rest
+pub mod Tables
+pub mod Stands
+pub mod Changes
+pub mod Cursors
+pub mod Laws

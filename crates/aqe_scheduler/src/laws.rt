@@ -1,0 +1,18 @@
+//! Laws of histories, each the contract of a function that does nothing.
+
+ghost use Rattle.aqe_scheduler.specs.Laws.{FatesAreRight, OthersRunOnce, RerunsAreBounded};
+
+/// A task runs at most once more than outputs were taken away: by losses of executors, and by failed fetches that were counted.
+pub fn reruns_are_bounded()
+    ensures { RerunsAreBounded }
+{}
+
+/// A task of a broadcast, sample or result stage runs at most once.
+pub fn others_run_once()
+    ensures { OthersRunOnce }
+{}
+
+/// Each event of a history has the fate that it has behind what stands before it, whatever follows.
+pub fn fates_are_right()
+    ensures { FatesAreRight }
+{}
