@@ -4,3 +4,4 @@ pub mod States
 pub mod Known
 pub mod Restrictions
 pub mod LegalRecord
+pub mod Laws

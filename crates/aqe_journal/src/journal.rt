@@ -15,9 +15,13 @@ pub struct Journal {
 
 impl Model for Journal {
     ghost use Rattle.std.specs.Prelude.{List};
+    ghost use Rattle.std.specs.Coded.{codes};
     ghost use Rattle.aqe_journal.specs.declared.record.QueryRecord.{QueryRecord as RecordData};
+    ghost use Rattle.aqe_journal.specs.contracts.record.QueryRecord as record_contract;
 
     ghost Value = { List RecordData };
+
+    ghost coded = { Prim.hlevel (codes, record_contract.the_row.coded) };
 
     ghost view = { λ j. j.records };
 }

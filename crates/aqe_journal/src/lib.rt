@@ -2,9 +2,11 @@
 #![tactic(auto)]
 
 mod journal;
+mod laws;
 mod record;
 
 pub use journal::Journal;
+pub use laws::{legal_rows_are_an_answer, legal_versions_stand, one_record_is_legal};
 pub use record::{
     FateList, Finish, NoteOutputs, QueryRecord, RunList, RunNote, StageNote, StageNotes,
     VersionNote, VersionNotes,
