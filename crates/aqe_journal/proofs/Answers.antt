@@ -59,11 +59,11 @@ versions_stand asked note sound legal =
     let v = one_version asked legal.last legal.runs in
     let P : VersionNote → Type 0 = λ version. StandsFor asked.tables legal.last.stages version.plan asked.query in
     subst (All P) (sym (ap (λ (n : QueryRecord). n.versions) legal.shows ∙ v.is))
-        (All-cons P (record { position = 0; logical = asked.query; plan = v.plan }) [] (first_stands asked legal.last v.plan sound v.first) (All-nil P))
+    (All-cons P (record { position = 0; logical = asked.query; plan = v.plan }) [] (first_stands asked legal.last v.plan sound v.first) (All-nil P))
 
 pub rows_answer : LegalRowsAreAnAnswer
 rows_answer asked note sound legal done =
     let v = one_version asked legal.last legal.runs in
     let is : note.rows ≡ rows_of asked legal.last legal.last.versions =
-        ap (λ (n : QueryRecord). n.rows) legal.shows ∙ ap (λ (f : Finish). rows_under f asked legal.last) done in
+    ap (λ (n : QueryRecord). n.rows) legal.shows ∙ ap (λ (f : Finish). rows_under f asked legal.last) done in
     subst (AnswerOf asked.tables asked.query) (sym (is ∙ ap (rows_of asked legal.last) v.is)) (first_stands asked legal.last v.plan sound v.first)

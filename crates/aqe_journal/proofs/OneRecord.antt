@@ -44,9 +44,11 @@ no_event x h = cc (h)
 
 same_candidate : (asked : Asked) (now : State) (x y : Logical) (p q : Plan) → IsCandidate asked now x p → IsCandidate asked now y q → (x ≡ y) × (p ≡ q)
 same_candidate asked now x y p q c d =
-    let e : x ≡ y = c.emptied ∙ sym d.emptied in
-    (e, one_plan p q y asked.estimates (known_sizes asked.tables now) asked.settings
-        (subst (λ (z : Logical). Fits p z asked.estimates (known_sizes asked.tables now) asked.settings) e c.fits) d.fits)
+    let e : x ≡ y = c.emptied ∙ sym d.emptied in (
+      e,
+      one_plan p q y asked.estimates (known_sizes asked.tables now) asked.settings
+          (subst (λ (z : Logical). Fits p z asked.estimates (known_sizes asked.tables now) asked.settings) e c.fits) d.fits,
+    )
 
 plans_one : (asked : Asked) (now a b : State) → PlansAgain asked now a → PlansAgain asked now b → a ≡ b
 plans_one asked now a b (never n h) (never n2 h2) = refl
@@ -101,7 +103,7 @@ last_one asked a b e g p q ea eb =
     let h = from asked b q in
     let same : h.plan ≡ f.plan = one_plan h.plan f.plan asked.query asked.estimates [] asked.settings h.first f.first in
     path_one asked (with_marks (settled (first_state asked.query f.plan))) a b e g f.path
-        (subst (λ (x : Plan). Path asked (with_marks (settled (first_state asked.query x))) b) same h.path) ea eb
+    (subst (λ (x : Plan). Path asked (with_marks (settled (first_state asked.query x))) b) same h.path) ea eb
 
 pub one_record : OneRecordIsLegal
 one_record asked note other query l m =

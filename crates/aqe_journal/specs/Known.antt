@@ -23,10 +23,11 @@ held_sizes maps reducers output = record { cells = cell_sizes maps reducers outp
 -- of each stage its maps and reducers, and once it is materialised what it holds
 abbrev pub stage_size : Tables → State → ℕ → Stage → StageSize
 stage_size tables now s stage = record {
-    stage = record { 0 = s };
-    maps = part_count stage.body;
-    reducers = reducers_of stage.kind;
-    held = cond (is_materialised now s) (Some (held_sizes (part_count stage.body) (reducers_of stage.kind) (cells tables now.stages s))) None }
+  stage = record { 0 = s };
+  maps = part_count stage.body;
+  reducers = reducers_of stage.kind;
+  held = cond (is_materialised now s) (Some (held_sizes (part_count stage.body) (reducers_of stage.kind) (cells tables now.stages s))) None;
+}
 
 -- the numbers of the stages that are no result
 abbrev pub is_no_result : Option Stage → Bool

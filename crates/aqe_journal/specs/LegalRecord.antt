@@ -108,8 +108,8 @@ unfinished place = finish.Unfinished (record { 0 = place.0 }) (record { 0 = plac
 abbrev pub reached : Asked → State → Option Finish
 reached asked now =
     option_or (option_map aborted (failed_task asked (history now)))
-        (option_or (option_map stage_aborted (failed_stage asked (history now)))
-            (cond (is_done now) (Some finish.Done) None))
+    (option_or (option_map stage_aborted (failed_stage asked (history now)))
+    (cond (is_done now) (Some finish.Done) None))
 
 -- The states that a query's run comes to: it settles at position 0, and takes an event after the other until it has reached an end.
 pub data SoFar (asked : Asked) : State → Type 0 where
@@ -142,14 +142,16 @@ births_from n (other ∷ h) = births_from n h
 abbrev pub outputs_of : Asked → State → ℕ → List (MapId × List (List Row))
 outputs_of asked now s =
     map (λ m. (record { 0 = m }, slice_index_or (cells asked.tables now.stages s) m []))
-        (filter (counted (history now) s) (range_with_len 0 (map_count now.stages s)))
+    (filter (counted (history now) s) (range_with_len 0 (map_count now.stages s)))
 
 abbrev pub note_of : Asked → State → ℕ → Stage → StageNote
 note_of asked now s stage = record {
-    kind = stage.kind; body = stage.body;
-    born = slice_index_or (births_from 0 (history now)) s 0;
-    done = materialised_at now s;
-    outputs = outputs_of asked now s }
+  kind = stage.kind;
+  body = stage.body;
+  born = slice_index_or (births_from 0 (history now)) s 0;
+  done = materialised_at now s;
+  outputs = outputs_of asked now s;
+}
 
 abbrev pub notes_from : Asked → State → ℕ → List Stage → List StageNote
 notes_from asked now n [] = []
@@ -168,13 +170,14 @@ rows_under other asked now = []
 -- the record of a query of a number that came to a state and ended so
 abbrev pub record_of : ℕ → Asked → State → Finish → QueryRecord
 record_of query asked now end = record {
-    query = query;
-    stages = notes_from asked now 0 now.stages;
-    versions = now.versions;
-    fates = fates (history now);
-    runs = runs_from 0 (history now);
-    rows = rows_under end asked now;
-    finish = end }
+  query = query;
+  stages = notes_from asked now 0 now.stages;
+  versions = now.versions;
+  fates = fates (history now);
+  runs = runs_from 0 (history now);
+  rows = rows_under end asked now;
+  finish = end;
+}
 
 -- A record is legal where a run comes to a state in which it is finished, and the record shows that state.
 pub record Legal (note : QueryRecord) (asked : Asked) : Type 0 where

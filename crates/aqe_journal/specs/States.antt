@@ -52,9 +52,12 @@ materialised_at now s = find (λ k. whole (upto k (history now)) s) (positions n
 -- the state before anything happens, with the first version of a query's plan
 abbrev pub first_state : Logical → Plan → State
 first_state query plan = record {
-    logical = query; plan = plan;
-    versions = record { position = 0; logical = query; plan = plan } ∷ [];
-    stages = []; entries = [] }
+  logical = query;
+  plan = plan;
+  versions = record { position = 0; logical = query; plan = plan } ∷ [];
+  stages = [];
+  entries = [];
+}
 
 -- A stage more, which takes the next number. In the current plan its exchange becomes its plain read, and a range names its sample;
 -- in the current logical plan a leaf that the stage holds stands in its place. Of the result both plans stay.
@@ -63,16 +66,19 @@ number_of n = record { 0 = n }
 
 abbrev pub with_stage : State → Making → State
 with_stage now making = record now {
-    logical = logical_after (number_of (length now.stages)) now.logical making.place now.plan;
-    plan = after (number_of (length now.stages)) making.place now.plan;
-    stages = now.stages ++ making.stage ∷ [];
-    entries = now.entries ++ Adds (birth_over now.stages making.stage) ∷ [] }
+  logical = logical_after (number_of (length now.stages)) now.logical making.place now.plan;
+  plan = after (number_of (length now.stages)) making.place now.plan;
+  stages = now.stages ++ making.stage ∷ [];
+  entries = now.entries ++ Adds (birth_over now.stages making.stage) ∷ [];
+}
 
 -- a version more
 abbrev pub with_version : State → Logical → Plan → State
 with_version now logical plan = record now {
-    logical = logical; plan = plan;
-    versions = now.versions ++ record { position = position now; logical = logical; plan = plan } ∷ [] }
+  logical = logical;
+  plan = plan;
+  versions = now.versions ++ record { position = position now; logical = logical; plan = plan } ∷ [];
+}
 
 -- an event more
 abbrev pub with_event : State → Event → State
