@@ -68,7 +68,7 @@ module _ (tables : Tables) (stages : Stages) where
   narrow_moved target.Broadcast p h = subst Narrow (sym (append-nil (all tables stages p))) h
 
 -- what holds of each plan within a plan holds of the plan
-first_of : (P : Plan → Type 0) (p : Plan) → Each P p → P p
+pub first_of : (P : Plan → Type 0) (p : Plan) → Each P p → P p
 first_of P OneRow h = h
 first_of P (Scan table files) h = h
 first_of P (Nothing count width) h = h

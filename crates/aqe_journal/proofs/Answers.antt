@@ -3,18 +3,16 @@ use Rattle.std.proofs.Common.{[], ◌∷◌, ◌≡◌, refl, ap, sym, subst, �
 use Rattle.std.specs.Prelude.{All}
 use Rattle.std.proofs.lemmas.List.Elements.{All-nil, All-cons}
 use Rattle.aqe_base.specs.declared.event.Event.{Event}
-use Rattle.aqe_logical.specs.declared.plan.Logical.{Logical}
-use Rattle.aqe_logical.specs.Answers.{Row, AnswerOf}
+use Rattle.aqe_logical.specs.Answers.{AnswerOf}
 use Rattle.aqe_physical.specs.declared.plan.Plan.{Plan}
 use Rattle.aqe_stages.specs.Stands.{StandsFor}
 use Rattle.aqe_making.specs.Makings.{Making, all_makings}
 use Rattle.aqe_journal.specs.declared.record.Finish.{Finish}
-use Rattle.aqe_journal.specs.declared.record.Finish.TheVariants.{Done}
 use Rattle.aqe_journal.specs.declared.record.QueryRecord.{QueryRecord}
 use Rattle.aqe_journal.specs.declared.record.VersionNote.{VersionNote}
 use Rattle.aqe_journal.specs.Asked.{Asked}
 use Rattle.aqe_journal.specs.States.{State, first_state, with_stage, with_event, is_materialised}
-use Rattle.aqe_journal.specs.LegalRecord.{IsFirst, PlansAgain, never, keeps, adopts, Takes, goes_on, turns, settled, has_result, SoFar, begun, one_on, rows_of, rows_under, Legal}
+use Rattle.aqe_journal.specs.LegalRecord.{IsFirst, PlansAgain, never, keeps, adopts, Takes, goes_on, turns, settled, has_result, SoFar, begun, one_on, rows_of, rows_under}
 use Rattle.aqe_journal.specs.Laws.{IsSound, LegalVersionsStand, LegalRowsAreAnAnswer}
 use Rattle.aqe_fit_laws.proofs.FittingServes.{fitting_stand}
 

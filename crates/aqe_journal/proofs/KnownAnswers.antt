@@ -1,9 +1,6 @@
 -- The record of SELECT count(*) FROM t over two files, written out by hand from the rules: a check of the definitions.
-use Rattle.std.proofs.Common.{◌≡◌, ℕ, true, false, List, [], ◌∷◌, refl, pos, Some, None}
+use Rattle.std.proofs.Common.{◌≡◌, ℕ, true, List, [], ◌∷◌, refl, pos, Some}
 use Rattle.std.specs.Int.{int_wrap}
-use Rattle.aqe_base.specs.declared.stage_id.StageId.{StageId}
-use Rattle.aqe_base.specs.declared.ids.TaskId.{TaskId}
-use Rattle.aqe_base.specs.declared.ids.MapId.{MapId}
 use Rattle.aqe_values.specs.declared.value.Value.TheVariants.{Int, BigInt}
 use Rattle.aqe_values.specs.declared.schema.Field.{Field}
 use Rattle.aqe_values.specs.declared.sql_type.SqlType.TheVariants as type
@@ -16,7 +13,6 @@ use Rattle.aqe_logical.specs.Shapes.{aggregated}
 use Rattle.aqe_logical.specs.Answers.{Row, Tables}
 use Rattle.aqe_settings.specs.Values.{default_values}
 use Rattle.aqe_rects.specs.Rectangles.{plain_rects}
-use Rattle.aqe_physical.specs.declared.sizes.Estimate.{Estimate}
 use Rattle.aqe_physical.specs.declared.target.Target.TheVariants as target
 use Rattle.aqe_physical.specs.declared.target.StageKind.TheVariants as kind
 use Rattle.aqe_physical.specs.declared.plan.Plan as plan
@@ -29,8 +25,8 @@ use Rattle.aqe_journal.specs.declared.record.RunNote.{RunNote}
 use Rattle.aqe_journal.specs.declared.record.StageNote.{StageNote}
 use Rattle.aqe_journal.specs.declared.record.QueryRecord.{QueryRecord}
 use Rattle.aqe_journal.specs.Asked.{Asked}
-use Rattle.aqe_journal.specs.States.{State, first_state, with_event, with_marks, is_turning}
-use Rattle.aqe_journal.specs.LegalRecord.{IsFirst, never, goes_on, turns, settled, reached, next_event, begun, one_on, at_end, record_of, Legal}
+use Rattle.aqe_journal.specs.States.{State, first_state, with_event, with_marks}
+use Rattle.aqe_journal.specs.LegalRecord.{IsFirst, never, goes_on, turns, settled, begun, one_on, at_end, record_of, Legal}
 
 abbrev count : List AggCall
 count = record { fun = Count; arg = Literal (Int (pos 1)) } ∷ []

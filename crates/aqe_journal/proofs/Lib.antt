@@ -1,3 +1,5 @@
 pub mod OneRecord
 pub mod Answers
 pub mod KnownAnswers
+pub mod Born
+pub mod StagesRun

@@ -1,5 +1,5 @@
 -- At most one record of a query is legal: each step of a run determines the next state, and no step follows an end.
-use Rattle.std.proofs.Common.{[], ◌≡◌, refl, ap, sym, subst, ◌∙◌, ℕ, Bool, true, false, Option, Some, None}
+use Rattle.std.proofs.Common.{[], ◌≡◌, refl, ap, sym, subst, ◌∙◌, true, false, Some, None}
 use Rattle.std.specs.Option.{unwrap_or}
 use Rattle.aqe_base.specs.declared.event.Event.{Event}
 use Rattle.aqe_logical.specs.declared.plan.Logical.{Logical}
@@ -7,12 +7,10 @@ use Rattle.aqe_physical.specs.declared.plan.Plan.{Plan}
 use Rattle.aqe_physical.specs.Counts.{Better}
 use Rattle.aqe_fitting.specs.Fits.{Fits}
 use Rattle.aqe_journal.specs.declared.record.Finish.{Finish}
-use Rattle.aqe_journal.specs.declared.record.QueryRecord.{QueryRecord}
 use Rattle.aqe_journal.specs.Asked.{Asked}
 use Rattle.aqe_journal.specs.Known.{known_sizes}
-use Rattle.aqe_journal.specs.Restrictions.{plans_again}
-use Rattle.aqe_journal.specs.States.{State, first_state, with_version, with_event, with_marks, is_turning, history}
-use Rattle.aqe_journal.specs.LegalRecord.{IsFirst, IsCandidate, PlansAgain, never, keeps, adopts, Takes, goes_on, turns, settled, reached, next_event, SoFar, begun, one_on, Finishes, at_end, stopped, unfinished, record_of, Legal}
+use Rattle.aqe_journal.specs.States.{State, first_state, with_version, with_event, with_marks}
+use Rattle.aqe_journal.specs.LegalRecord.{IsFirst, IsCandidate, PlansAgain, never, keeps, adopts, Takes, goes_on, turns, settled, reached, next_event, SoFar, begun, one_on, Finishes, at_end, stopped, unfinished, record_of}
 use Rattle.aqe_journal.specs.Laws.{OneRecordIsLegal}
 use Rattle.aqe_fitting.proofs.OnePlan.{one_plan}
 

@@ -1,12 +1,12 @@
 -- What is known of the sizes of stages at a position.
-use Rattle.std.specs.Prelude.{ℕ, Bool, true, false, not, ◌&&◌, ◌==◌, if◌then◌else◌, cond, List, [], ◌∷◌, map, filter, flat_map, length, Option, Some, None, slice_get}
+use Rattle.std.specs.Prelude.{ℕ, Bool, false, not, ◌&&◌, ◌==◌, cond, List, [], ◌∷◌, map, filter, flat_map, length, Option, Some, None, slice_get}
 use Rattle.std.specs.List.{range_with_len}
 use Rattle.aqe_base.specs.declared.stage_id.StageId.{StageId}
 use Rattle.aqe_logical.specs.Answers.{Tables}
 use Rattle.aqe_physical.specs.declared.sizes.StageSize.{StageSize}
 use Rattle.aqe_physical.specs.declared.sizes.HeldSizes.{HeldSizes}
 use Rattle.aqe_physical.specs.Counts.{part_count}
-use Rattle.aqe_stages.specs.Stages.{Stage, Stages, Output, output_of}
+use Rattle.aqe_stages.specs.Stages.{Stage, Output}
 use Rattle.aqe_stages.specs.Parts.{cells}
 use Rattle.aqe_stages.specs.Runnable.{reducers_of}
 use Rattle.aqe_stages.specs.Sizes.{size, row_count}

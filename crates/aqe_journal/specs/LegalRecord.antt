@@ -1,6 +1,6 @@
 -- What makes the record of a query legal. A record is legal where a run that keeps the rules below comes to a state in which the
 -- query is finished, and the record shows what that state says. The rules stand here in nine parts, each with a name of its own.
-use Rattle.std.specs.Prelude.{◌≡◌, ℕ, suc, Bool, true, false, if◌then◌else◌, nat_le, List, [], ◌∷◌, ◌++◌, map, filter, fold, length, find, Option, Some, None, option_map, slice_get, slice_index_or, ◌&&◌, cond}
+use Rattle.std.specs.Prelude.{◌≡◌, ℕ, suc, Bool, true, false, nat_le, List, [], ◌∷◌, map, filter, fold, length, find, Option, Some, None, option_map, slice_get, slice_index_or, ◌&&◌, cond}
 use Rattle.std.specs.Option.{option_or}
 use Rattle.std.specs.List.{list_any, range_with_len}
 use Rattle.aqe_base.specs.declared.event.Event.{Event}

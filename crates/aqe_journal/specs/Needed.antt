@@ -1,7 +1,6 @@
 -- Which stages a plan and a stage read, which of them are needed, and what a stage is to the board.
-use Rattle.std.specs.Prelude.{ℕ, suc, Bool, false, true, not, ◌&&◌, ◌||◌, ◌==◌, Option, Some, None, List, [], ◌∷◌, map, slice_index_or, slice_get}
+use Rattle.std.specs.Prelude.{ℕ, suc, Bool, false, true, not, ◌&&◌, ◌||◌, ◌==◌, Option, Some, None, List, [], ◌∷◌, map, slice_get}
 use Rattle.std.specs.List.{list_any, range_with_len}
-use Rattle.aqe_base.specs.declared.stage_id.StageId.{StageId}
 use Rattle.aqe_physical.specs.declared.target.Target.{Target}
 use Rattle.aqe_physical.specs.declared.target.Target.TheVariants as target
 use Rattle.aqe_physical.specs.declared.target.StageKind.{StageKind}

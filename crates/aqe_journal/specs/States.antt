@@ -1,5 +1,5 @@
 -- What a query's run has come to at a position, and what its history says.
-use Rattle.std.specs.Prelude.{ℕ, suc, Bool, cond, not, ◌&&◌, List, [], ◌∷◌, ◌++◌, length, find, Option, Some, None}
+use Rattle.std.specs.Prelude.{ℕ, suc, Bool, not, ◌&&◌, List, [], ◌∷◌, ◌++◌, length, find, Option}
 use Rattle.std.specs.List.{list_any, range_with_len}
 use Rattle.aqe_base.specs.declared.event.Event.{Event}
 use Rattle.aqe_base.specs.declared.stage_id.StageId.{StageId}
