@@ -4,6 +4,8 @@
 #![tactic(auto)]
 
 #[cfg(test)]
+mod board;
+#[cfg(test)]
 mod cells;
 #[cfg(test)]
 mod groups;
@@ -15,6 +17,8 @@ mod physical;
 mod placing;
 #[cfg(test)]
 mod plans;
+#[cfg(test)]
+mod records;
 #[cfg(test)]
 mod rows;
 #[cfg(test)]
