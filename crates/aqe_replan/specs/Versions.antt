@@ -1,0 +1,35 @@
+-- The versions of a query's plan.
+use Rattle.std.specs.Prelude.{◌≡◌, ℕ, ◌==◌, Bool, true, false, cond, ◌⊎◌, Some, List}
+use Rattle.std.specs.List.{list_any}
+use Rattle.aqe_base.specs.declared.stage_id.StageId.{StageId}
+use Rattle.aqe_physical.specs.declared.target.StageKind.{StageKind}
+use Rattle.aqe_physical.specs.declared.target.StageKind.TheVariants as kind
+use Rattle.aqe_physical.specs.declared.plan.Plan.{Plan}
+use Rattle.aqe_making.specs.Makings.{Making, all_makings}
+use Rattle.aqe_making.specs.After.{after, stage_at}
+use Rattle.aqe_replan.specs.declared.versions.Versions.{Versions}
+
+-- whether a stage is among those listed
+abbrev pub listed : List StageId → ℕ → Bool
+listed stages n = list_any (λ stage. stage.0 == n) stages
+
+-- whether a stage is the result
+abbrev pub is_result : StageKind → Bool
+is_result kind.Result = true
+is_result other = false
+
+-- what can be made, where the stages of a list are whole
+abbrev pub ready_of : List StageId → Versions → List Making
+ready_of stages versions = all_makings (listed stages) versions.has_result versions.plan
+
+-- A making can be made: it is the result, or the stage of the exchange that stands at its place.
+abbrev pub CanBeMade : Plan → Making → Type 0
+CanBeMade plan making = (is_result making.stage.kind ≡ true) ⊎ (stage_at making.place plan ≡ Some making.stage)
+
+-- the plan after a making got its number: a result changes nothing
+abbrev pub plan_after : StageId → Making → Plan → Plan
+plan_after number making plan = cond (is_result making.stage.kind) plan (after number making.place plan)
+
+-- whether the result stage was made
+abbrev pub result_after : Making → Bool → Bool
+result_after making before = cond (is_result making.stage.kind) true before
