@@ -8,3 +8,4 @@ pub mod TableEnds
 pub mod RunEnds
 pub mod Numbers
 pub mod Shapes
+pub mod InForce

@@ -38,10 +38,10 @@ use Rattle.aqe_course.proofs.OneLoading.{Alike, alike_back, loaded_alike, stoppe
 
 -- two runs stand alike
 abbrev Same : State → State → Type 0
-Same a b = (a.catalog ≡ b.catalog) × Alike a.tables b.tables × (a.answered ≡ b.answered)
+Same a b = (a.catalog ≡ b.catalog) × Alike a.tables b.tables × (a.answered ≡ b.answered) × (a.settings ≡ b.settings)
 
 same_back : (a b : State) → Same a b → Same b a
-same_back a b h = (sym h.0, alike_back a.tables b.tables h.1, sym h.2)
+same_back a b h = (sym h.0, alike_back a.tables b.tables h.1, sym h.2, sym h.3)
 
 plan_once : (tree : QueryTree) (c d : List CatalogTable) (p q : Logical) → c ≡ d → Analysed tree (seen c) p → Analysed tree (seen d) q → p ≡ q
 plan_once tree c d p q e h k = let both : Ok p ≡ Ok q = sym h ∙ ap (λ x. walk tree (seen x)) e ∙ k in cc both
@@ -57,7 +57,7 @@ stops_there : (files : Entries) (c d : List CatalogTable) (s : Slots) (p q : Log
 stops_there files c d s p q why e f h = subst (λ x. IsStopped files d s (scans x) why) f (subst (λ x. IsStopped files x s (scans p) why) e h)
 
 carried_same : (files : Entries) (a b a' b' : State) (one : Stmt) (qs rs : List Query) → Same a b → IsCarriedOut files a one a' qs → IsCarriedOut files b one b' rs → Same a' b'
-carried_same files a b a' b' (statement.CreateTable form) qs rs h (x, e, y) (z, f, w) = rw (e, f, h.0) (refl, h.1, h.2)
+carried_same files a b a' b' (statement.CreateTable form) qs rs h (x, e, y) (z, f, w) = rw (e, f, h.0) (refl, h.1, h.2, h.3)
 carried_same files a b a' b' (statement.Set form) qs rs h x y = absurd x
 carried_same files a b a' b' (statement.Query tree) qs rs h x y =
     let plan : x.plan ≡ y.plan = plan_once tree a.catalog b.catalog x.plan y.plan h.0 x.analysed y.analysed in (
@@ -65,6 +65,7 @@ carried_same files a b a' b' (statement.Query tree) qs rs h x y =
       loaded_alike files b.catalog a.tables b.tables a'.tables b'.tables (scans y.plan) h.1
           (loads_there files a.catalog b.catalog a.tables a'.tables x.plan y.plan h.0 plan x.loaded) y.loaded,
       x.counted ∙ ap (λ n. n + 1) h.2 ∙ sym y.counted,
+      x.in_force ∙ h.3 ∙ sym y.in_force,
     )
 
 refused_not_carried : (files : Entries) (a b b' : State) (one : Stmt) (end : Status) (rs : List Query) → Same a b → IsRefusedStatement files a one end → IsCarriedOut files b one b' rs → ⊥
@@ -110,7 +111,7 @@ answers_same files a b a' b' (statement.Query tree) qs rs h x y =
     let plan : x.plan ≡ y.plan = plan_once tree a.catalog b.catalog x.plan y.plan h.0 x.analysed y.analysed in
     let tables : Alike a'.tables b'.tables = loaded_alike files b.catalog a.tables b.tables a'.tables b'.tables (scans y.plan) h.1
     (loads_there files a.catalog b.catalog a.tables a'.tables x.plan y.plan h.0 plan x.loaded) y.loaded in
-    rw (x.is, y.is) (record { number = h.2; plan = plan; tables = tables }, tt)
+    rw (x.is, y.is) (record { number = h.2; plan = plan; tables = tables; settings = h.3; events = refl }, tt)
 
 -- runs of the same statements that are both refused are refused alike
 runs_refused : (files : Entries) (a b m n : State) (st r s : List Stmt) (one two : Stmt) (qs rs : List Query) (x y : Status) → Same a b → Runs files a st qs m (one ∷ r) → IsRefusedStatement files m one x
@@ -241,7 +242,7 @@ not_opened_once files said x y (refused source has r) (refused source' has' r') 
     source_refused_once source' x y (subst (λ s. IsRefusedSource s x) (source_once files said.path source source' has has') r) r'
 
 start_same : Same nothing nothing
-start_same = (refl, λ n. refl, refl)
+start_same = (refl, λ n. refl, refl, refl)
 
 -- a run is refused with one status, behind the same queries
 pub one_course : (files : Entries) (said : Command) (qs rs : List Query) (x y : Status) → IsRefused files said qs x → IsRefused files said rs y → OneRefusal qs rs x y

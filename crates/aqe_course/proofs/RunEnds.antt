@@ -93,14 +93,14 @@ creating : (files : Entries) (now : State) (form : TableForm) → Carrying files
 creating files now form = by (create_fault now.catalog form) refl
   where
     by : (o : Option CreateFault) → create_fault now.catalog form ≡ o → Carrying files now (statement.CreateTable form)
-    by None e = inl (state (now.catalog ++ catalog_table form ∷ []) now.tables now.answered, [], (e, refl, refl))
+    by None e = inl (state (now.catalog ++ catalog_table form ∷ []) now.tables now.settings now.answered, [], (e, refl, refl))
     by (Some why) e = inr (of_create why, (why, e, refl))
 
 answering : (files : Entries) (now : State) (tree : QueryTree) → Surely (Carrying files now (statement.Query tree))
 answering files now tree = by (walk tree (seen now.catalog)) refl
   where
     loaded : (plan : Logical) → Analysed tree (seen now.catalog) plan → Loading files now.catalog now.tables (scans plan) → Carrying files now (statement.Query tree)
-    loaded plan e (inl (after, h)) = inl (state now.catalog after (now.answered + 1), query now.answered plan after ∷ [], record { plan = plan; analysed = e; loaded = h; kept = refl; counted = refl; is = refl })
+    loaded plan e (inl (after, h)) = inl (state now.catalog after now.settings (now.answered + 1), query now.answered plan after now.settings ∷ [], record { plan = plan; analysed = e; loaded = h; kept = refl; in_force = refl; counted = refl; is = refl })
     loaded plan e (inr (why, h)) = inr (of_load why, inr (record { plan = plan; analysed = e; why = why; stopped = h; is = refl }))
 
     by : (o : Outcome Logical) → walk tree (seen now.catalog) ≡ o → Surely (Carrying files now (statement.Query tree))

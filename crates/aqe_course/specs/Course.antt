@@ -1,11 +1,14 @@
 -- The course of a run over the files of its store: what each statement does, in order, and where the run is refused. Want of
 -- memory and a store that fails are not in it.
 use Rattle.std.specs.Prelude.{◌≡◌, ◌⊎◌, ◌+◌, ℕ, List, [], ◌∷◌, ◌++◌, None, Some, Err}
+use Rattle.aqe_base.specs.declared.event.Event.{Event}
 use Rattle.aqe_base.specs.declared.status.Status.{Status}
 use Rattle.aqe_base.specs.declared.status.Status.TheVariants as status
 use Rattle.aqe_base.specs.declared.status.AnalysisKind.TheVariants as analysis
 use Rattle.aqe_base.specs.declared.status.LimitKind.TheVariants as limit
 use Rattle.aqe_store.specs.Files.{Entries}
+use Rattle.aqe_settings.specs.declared.entry.Value.{Value}
+use Rattle.aqe_settings.specs.Values.{default_values}
 use Rattle.aqe_logical.specs.declared.plan.Logical.{Logical}
 use Rattle.aqe_trees.specs.declared.query.QueryTree.{QueryTree}
 use Rattle.aqe_trees.specs.declared.statement.Stmt.{Stmt}
@@ -26,28 +29,33 @@ use Rattle.aqe_analysis.specs.Catalogs.{seen}
 use Rattle.aqe_lists.specs.Forms.{scans}
 use Rattle.aqe_course.specs.Loading.{AreLoaded, IsStopped}
 
--- What a run has made by its statements so far: the tables that were created, those of them that are loaded, and how many
--- queries were answered. Settings of the script will stand here too.
+-- What a run has made by its statements so far: the tables that were created, those of them that are loaded, the settings in
+-- force, which are the values of the table of settings in its order, and how many queries were answered.
 pub record State : Type 0 where
   pub catalog : List CatalogTable
   pub tables : Slots
+  pub settings : List Value
   pub answered : ℕ
 
-abbrev pub state : List CatalogTable → Slots → ℕ → State
-state catalog tables answered = record { catalog = catalog; tables = tables; answered = answered }
+abbrev pub state : List CatalogTable → Slots → List Value → ℕ → State
+state catalog tables settings answered = record { catalog = catalog; tables = tables; settings = settings; answered = answered }
 
+-- a run begins with no table, and with the default of each setting
 abbrev pub nothing : State
-nothing = state [] [] 0
+nothing = state [] [] default_values 0
 
--- A query that was carried out: its number, which counts the queries of the script from 0, its plan, and the tables that are
--- loaded by then. Its events will stand here too.
+-- A query that was carried out: its number, which counts the queries of the script from 0, its plan, the tables that are
+-- loaded by then, the settings in force, and what happens to its tasks, which is nothing until a run takes a file of events.
 pub record Query : Type 0 where
   pub number : ℕ
   pub plan : Logical
   pub tables : Slots
+  pub settings : List Value
+  pub events : List Event
 
-abbrev pub query : ℕ → Logical → Slots → Query
-query number plan tables = record { number = number; plan = plan; tables = tables }
+-- a query to whose tasks nothing happens
+abbrev pub query : ℕ → Logical → Slots → List Value → Query
+query number plan tables settings = record { number = number; plan = plan; tables = tables; settings = settings; events = [] }
 
 -- the status of each refusal
 abbrev pub of_create : CreateFault → Status
@@ -80,17 +88,18 @@ of_load load.Memory = status.Memory
 -- CREATE TABLE enters the catalog, and reads nothing
 abbrev pub IsCreated : State → TableForm → State → List Query → Type 0
 IsCreated now form next answered =
-    (create_fault now.catalog form ≡ None) × (next ≡ state (now.catalog ++ catalog_table form ∷ []) now.tables now.answered)
+    (create_fault now.catalog form ≡ None) × (next ≡ state (now.catalog ++ catalog_table form ∷ []) now.tables now.settings now.answered)
     × (answered ≡ [])
 
--- a query is analysed, and then the tables that its plan scans are loaded, from left to right
+-- a query is analysed, and then the tables that its plan scans are loaded, from left to right; it changes no setting
 pub record IsAnswered (files : Entries) (now : State) (tree : QueryTree) (next : State) (answered : List Query) : Type 0 where
   pub plan : Logical
   pub analysed : Analysed tree (seen now.catalog) plan
   pub loaded : AreLoaded files now.catalog now.tables (scans plan) next.tables
   pub kept : next.catalog ≡ now.catalog
+  pub in_force : next.settings ≡ now.settings
   pub counted : next.answered ≡ now.answered + 1
-  pub is : answered ≡ query now.answered plan next.tables ∷ []
+  pub is : answered ≡ query now.answered plan next.tables now.settings ∷ []
 
 -- a statement is carried out
 abbrev pub IsCarriedOut : Entries → State → Stmt → State → List Query → Type 0

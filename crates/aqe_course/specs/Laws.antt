@@ -1,21 +1,25 @@
 -- What holds of the courses and the ends of all runs.
-use Rattle.std.specs.Prelude.{◌≡◌, ◌⊎◌, ◌+◌, ⊤, ℕ, List, [], ◌∷◌, Option, IsTrue}
+use Rattle.std.specs.Prelude.{◌≡◌, ◌⊎◌, ◌+◌, ⊤, ℕ, List, [], ◌∷◌, All, Option, IsTrue}
 use Rattle.aqe_base.specs.declared.status.Status.{Status}
 use Rattle.aqe_base.specs.declared.status.Status.TheVariants as status
 use Rattle.aqe_store.specs.Files.{Entries}
 use Rattle.aqe_store.specs.Told.{Open}
 use Rattle.aqe_tables.specs.Loaded.{AreShaped, table_at}
+use Rattle.aqe_settings.specs.Ranges.{InRange}
+use Rattle.aqe_settings.specs.Values.{default_values}
 use Rattle.aqe_course.specs.Command.{Command}
 use Rattle.aqe_trees.specs.declared.statement.Stmt.{Stmt}
-use Rattle.aqe_course.specs.Course.{Query, Runs, State, nothing}
+use Rattle.aqe_course.specs.Course.{IsCarriedOut, Query, Runs, State, nothing}
 use Rattle.aqe_course.specs.Ending.{Answers, Ends, IsAccepted, IsDone, IsRefused, RefusesBehind}
 use Rattle.aqe_course.specs.Statuses.{is_failure, is_refusal}
 
--- the same plan under the same number, over the same loaded tables
+-- the same plan under the same number, over the same loaded tables, with the same settings in force and the same events
 pub record AreAlike (this other : Query) : Type 0 where
   pub number : this.number ≡ other.number
   pub plan : this.plan ≡ other.plan
   pub tables : (n : ℕ) → table_at this.tables n ≡ table_at other.tables n
+  pub settings : this.settings ≡ other.settings
+  pub events : this.events ≡ other.events
 
 -- the same queries in the same order
 abbrev pub AreAllAlike : List Query → List Query → Type 0
@@ -61,6 +65,20 @@ HasShapedTables now = AreShaped now.catalog now.tables
 abbrev pub RunsKeepShapes : Type 0
 RunsKeepShapes = (files : Entries) (script left : List Stmt) (queries : List Query) (now : State)
     → Runs files nothing script queries now left → HasShapedTables now
+
+-- the settings of a query are those in force where its statement is carried out
+abbrev pub QueriesHaveTheSettingsInForce : Type 0
+QueriesHaveTheSettingsInForce = (files : Entries) (now next : State) (one : Stmt) (answered : List Query)
+    → IsCarriedOut files now one next answered → All (λ query. query.settings ≡ now.settings) answered
+
+-- the settings of a state, and those of each query, lie in their ranges
+abbrev pub AreInRange : State → List Query → Type 0
+AreInRange now queries = InRange now.settings × All (λ query. InRange query.settings) queries
+
+-- the settings of a run lie in their ranges, and so do those of each of its queries
+abbrev pub RunsKeepRanges : Type 0
+RunsKeepRanges = (files : Entries) (script left : List Stmt) (queries : List Query) (now : State)
+    → Runs files nothing script queries now left → AreInRange now queries
 
 -- Each run is carried out or refused: none is neither. The definitions compute no test of whether tokens are a script, so that
 -- this says of a run which is not refused that it cannot but be carried out.

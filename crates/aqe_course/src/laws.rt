@@ -1,6 +1,6 @@
 //! Laws of the definitions, each the contract of a function that does nothing.
 
-ghost use Rattle.aqe_course.specs.Laws.{DoneIsNotRefused, EachRunEnds, EndsTell, RefusalsAreOfTheCourse, RunsAnswerTheSame, RunsHaveOneRefusal, RunsNumberTheirQueries, RunsKeepShapes};
+ghost use Rattle.aqe_course.specs.Laws.{DoneIsNotRefused, EachRunEnds, EndsTell, QueriesHaveTheSettingsInForce, RefusalsAreOfTheCourse, RunsAnswerTheSame, RunsHaveOneRefusal, RunsKeepRanges, RunsNumberTheirQueries, RunsKeepShapes};
 
 /// A run is refused with one status at most, behind the same queries.
 pub fn runs_have_one_refusal()
@@ -25,6 +25,16 @@ pub fn runs_number_their_queries()
 /// What a run has loaded has the shape of its schema.
 pub fn runs_keep_shapes()
     ensures { RunsKeepShapes }
+{}
+
+/// The settings of a query are those in force.
+pub fn queries_have_the_settings_in_force()
+    ensures { QueriesHaveTheSettingsInForce }
+{}
+
+/// The settings of a run and of each of its queries lie in their ranges.
+pub fn runs_keep_ranges()
+    ensures { RunsKeepRanges }
 {}
 
 /// A run is carried out or refused, and none is neither.

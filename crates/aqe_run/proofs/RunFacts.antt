@@ -92,12 +92,12 @@ plan_within tree catalog plan h = scans_within tree catalog plan h
 
 -- a query that is analysed, and whose tables are loaded
 pub queried : (told : Option Entries) (now next : State) (tree : QueryTree) (plan : Logical) (r : Result (List ℕ) Status) → Analysed tree (seen now.catalog) plan
-    → IfOk r (λ text. WhereTold told (λ files. AreLoaded files now.catalog now.tables (scans plan) next.tables)) → IfOk r (λ text. IsTextOf (query now.answered plan next.tables) text)
-    → next.catalog ≡ now.catalog → IfOk r (λ text. next.answered ≡ now.answered + 1) → IfOk r (λ text. WhereTold told (λ files. IsQueried files now tree next text))
-queried told now next tree plan (Ok text) a l t k n =
+    → IfOk r (λ text. WhereTold told (λ files. AreLoaded files now.catalog now.tables (scans plan) next.tables)) → IfOk r (λ text. IsTextOf (query now.answered plan next.tables now.settings) text)
+    → next.catalog ≡ now.catalog → next.settings ≡ now.settings → IfOk r (λ text. next.answered ≡ now.answered + 1) → IfOk r (λ text. WhereTold told (λ files. IsQueried files now tree next text))
+queried told now next tree plan (Ok text) a l t k s n =
     told_one (λ files. AreLoaded files now.catalog now.tables (scans plan) next.tables) (λ files. IsQueried files now tree next text) told
-    (λ files p. record { query = query now.answered plan next.tables; is = record { plan = plan; analysed = a; loaded = p; kept = k; counted = n; is = refl }; has = t }) l
-queried told now next tree plan (Err end) a l t k n = tt
+    (λ files p. record { query = query now.answered plan next.tables now.settings; is = record { plan = plan; analysed = a; loaded = p; kept = k; in_force = s; counted = n; is = refl }; has = t }) l
+queried told now next tree plan (Err end) a l t k s n = tt
 
 -- a query that reads tables
 pub reads_query : (now : State) (tree : QueryTree) (plan : Logical) → Analysed tree (seen now.catalog) plan → AreMissing now.tables (scans plan) → ReadsTables now (statement.Query tree)

@@ -11,6 +11,7 @@ use Rattle.aqe_store.specs.Sink.{AppendsFront}
 use Rattle.aqe_store.specs.Told.{Open, WhereTold}
 use Rattle.aqe_trees.specs.declared.query.QueryTree.{QueryTree}
 use Rattle.aqe_trees.specs.declared.statement.Stmt.{Stmt}
+use Rattle.aqe_settings.specs.Values.{values_of}
 use Rattle.aqe_tables.specs.declared.catalog.CatalogTable.{CatalogTable}
 use Rattle.aqe_tables.specs.declared.fault.LoadFault.{LoadFault}
 use Rattle.aqe_tables.specs.Steps.{IsStep}
@@ -23,9 +24,9 @@ use Rattle.aqe_course.specs.Opening.{IsNotOpened}
 use Rattle.aqe_course.specs.Statuses.{Side, course, store, memory, sink, side_of}
 use Rattle.aqe_run.specs.declared.made.Made.{Made}
 
--- the state that the program's tables stand for
+-- the state that the program's tables and settings stand for
 abbrev pub state_of : Made → State
-state_of made = state made.catalog made.tables made.answered
+state_of made = state made.catalog made.tables (values_of made.settings) made.answered
 
 -- how many statements were carried out
 abbrev pub done_of : Made → ℕ

@@ -1,6 +1,6 @@
 //! One statement of a script.
 
-ghost use Rattle.std.specs.Prelude.{◌≡◌, ◌≢◌, All, ◌<◌, ◌≤◌, ◌+◌, ◌-◌, ◌^◌, ◌⊎◌, ◌∷◌, [], Err, length, IsTrue, IfErr, IfOk, OnErr, OnOk, ℕ};
+ghost use Rattle.std.specs.Prelude.{◌≡◌, ◌≢◌, All, ◌<◌, ◌≤◌, ◌+◌, ◌-◌, ◌^◌, ◌⊎◌, ◌∷◌, [], Err, length, IsTrue, IfErr, IfOk, OnErr, OnOk, List, ℕ};
 ghost use Rattle.aqe_base.specs.declared.status.Status.TheVariants as status;
 ghost use Rattle.aqe_trees.specs.declared.statement.Stmt.TheVariants as stmt;
 ghost use Rattle.aqe_store.specs.Told.{WhereTold};
@@ -8,6 +8,8 @@ ghost use Rattle.aqe_built.specs.Built.{is_query_built, is_statement_built};
 ghost use Rattle.aqe_rules.specs.Analysis.{Analysed};
 ghost use Rattle.aqe_lists.specs.Forms.{AreScansLoaded, IsNarrow, IsOfOneSource, scans as scans_of};
 ghost use Rattle.aqe_analysis.specs.Catalogs.{seen};
+ghost use Rattle.aqe_settings.specs.declared.entry.Value.{Value};
+ghost use Rattle.aqe_settings.specs.Values.{values_of};
 ghost use Rattle.aqe_course.specs.Course.{IsCreated, IsNotAnalysed, IsNotCreated, of_create, of_fault, query as query_of};
 ghost use Rattle.aqe_course.specs.Laws.{HasShapedTables};
 ghost use Rattle.aqe_course.specs.Ending.{IsTextOf, ReadsTables};
@@ -105,7 +107,7 @@ fn printed(alloc: Global, plan: &Logical, tables: &Tables) -> Result<Bytes, Memo
     requires form { IsOfOneSource plan.now }
     requires narrow { IsNarrow plan.now }
     requires loaded { AreScansLoaded tables.now plan.now }
-    ensures { IfOk result (λ text. (number : ℕ) → IsTextOf (query_of number plan.now tables.now) text) }
+    ensures { IfOk result (λ text. (number : ℕ) (settings : List Value) → IsTextOf (query_of number plan.now tables.now settings) text) }
 {
     let rows = rows_of(alloc, plan, tables)?;
     let schema = schema_of(alloc, plan)?;
@@ -126,6 +128,7 @@ fn load_scans<S: Store>(
     ensures shaped { HasShapedTables (state_of made.new) }
     ensures all { OnOk result (LoadsAll (S.files store.old) made.old.catalog made.old.tables (scans_of plan.now) made.new.tables) }
     ensures kept { made.new.catalog ≡ made.old.catalog }
+    ensures in_force { made.new.settings ≡ made.old.settings }
     ensures uncounted { made.new.answered ≡ made.old.answered }
     ensures refused { IfErr result (RefusesTables (S.files store.old) made.old.catalog made.old.tables (scans_of plan.now)) }
     ensures reads { result ≡ Err status.ReadFault → AreMissing made.old.tables (scans_of plan.now) }
@@ -159,8 +162,9 @@ fn evaluated<S: Store>(
     requires shaped { HasShapedTables (state_of made.old) }
     ensures loaded { IfOk result (λ text. LoadsAll (S.files store.old) made.old.catalog made.old.tables (scans_of plan.now) made.new.tables) }
     ensures shaped { HasShapedTables (state_of made.new) }
-    ensures text { IfOk result (λ text. IsTextOf (query_of made.old.answered plan.now made.new.tables) text) }
+    ensures text { IfOk result (λ text. IsTextOf (query_of made.old.answered plan.now made.new.tables (values_of made.old.settings)) text) }
     ensures kept { made.new.catalog ≡ made.old.catalog }
+    ensures in_force { made.new.settings ≡ made.old.settings }
     ensures counted { IfOk result (λ text. made.new.answered ≡ made.old.answered + 1) }
     ensures uncounted { OnErr result (made.new.answered ≡ made.old.answered) }
     ensures refused { IfErr result (RefusesTables (S.files store.old) made.old.catalog made.old.tables (scans_of plan.now)) }

@@ -1,4 +1,6 @@
 use Rattle.aqe_run.proofs.RunFacts.{not_analysed, not_queried, plan_form, plan_narrow, plan_within, queried, reads_query}
+use Rattle.std.proofs.Common.{ap}
+use Rattle.aqe_settings.specs.Values.{values_of}
 use Rattle.aqe_run.specs.Steps.{state_of}
 use Rattle.aqe_run.proofs.statement.answered.Goals as goal
 
@@ -13,7 +15,7 @@ evaluated-requires g c = record {
 
 pub returns-in-Ok-clause-text : goal.returns-in-Ok-clause-text
 returns-in-Ok-clause-text g c =
-    queried (g.S.Store.files c.args.store.now) (state_of c.args.made.now) (state_of c.evaluated.new.made) c.args.tree.now c.in-Ok.plan c.evaluated.result c.in-Ok.ensures.plan c.evaluated.ensures.loaded c.evaluated.ensures.text c.evaluated.ensures.kept c.evaluated.ensures.counted
+    queried (g.S.Store.files c.args.store.now) (state_of c.args.made.now) (state_of c.evaluated.new.made) c.args.tree.now c.in-Ok.plan c.evaluated.result c.in-Ok.ensures.plan c.evaluated.ensures.loaded c.evaluated.ensures.text c.evaluated.ensures.kept (ap values_of c.evaluated.ensures.in_force) c.evaluated.ensures.counted
 
 pub returns-in-Ok-clause-refused : goal.returns-in-Ok-clause-refused
 returns-in-Ok-clause-refused g c =
