@@ -24,6 +24,8 @@ mod rows;
 #[cfg(test)]
 mod runs;
 #[cfg(test)]
+mod sizes;
+#[cfg(test)]
 mod sources;
 #[cfg(test)]
 mod tables;
