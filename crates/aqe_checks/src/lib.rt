@@ -8,6 +8,8 @@ mod board;
 #[cfg(test)]
 mod cells;
 #[cfg(test)]
+mod first_plans;
+#[cfg(test)]
 mod groups;
 #[cfg(test)]
 mod outside;
@@ -15,6 +17,8 @@ mod outside;
 mod physical;
 #[cfg(test)]
 mod placing;
+#[cfg(test)]
+mod plan_texts;
 #[cfg(test)]
 mod plans;
 #[cfg(test)]
