@@ -1,0 +1,4 @@
+pub mod Tests
+pub mod Chains
+pub mod NumbersAlone
+pub mod MissingLevels
