@@ -62,9 +62,10 @@ module _ (tables : Tables) (a b : Stages) where
 
   pub carry_matched : (how : JoinWay) (kind : JoinKind) (keys : JoinKeys) (v w : ℕ) (p q r s : Plan) → Same p r → Same q s →
       Same (matched how kind keys v w p q) (matched how kind keys v w r s) → Runs a (matched how kind keys v w p q) → Runs b (matched how kind keys v w r s)
-  carry_matched how kind keys v w p q r s e f g h =
-      (subst (Joins how kind keys v w) (λ i. (same_count p r e i, same_count q s f i, joined_parts (e i), joined_parts (f i))) h.0,
-      same_narrow (matched how kind keys v w p q) (matched how kind keys v w r s) g h.1)
+  carry_matched how kind keys v w p q r s e f g h = (
+    subst (Joins how kind keys v w) (λ i. (same_count p r e i, same_count q s f i, joined_parts (e i), joined_parts (f i))) h.0,
+    same_narrow (matched how kind keys v w p q) (matched how kind keys v w r s) g h.1,
+  )
 
   pub carry_grouped : (keys : List Expr) (calls : List AggCall) (p q : Plan) → Same p q → Same (grouped keys calls p) (grouped keys calls q) → Runs a (grouped keys calls p) → Runs b (grouped keys calls q)
   carry_grouped keys calls p q e g h = (subst (NarrowKeys (row_of keys)) (ap joined_parts e) h.0, same_narrow (grouped keys calls p) (grouped keys calls q) g h.1)

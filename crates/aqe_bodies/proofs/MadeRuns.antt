@@ -102,51 +102,65 @@ module _ (tables : Tables) (stages : Stages) (number : StageId) (e : number.0 �
   sent to child none h = narrow_moved tables stages to child (narrow tables stages child (first_of IsNoExchange child (each IsNoExchange child none)) h)
 
   made : (p q : Plan) (stage : Stage) → Made number p stage q → WithoutExchange stage.body → Below p → Runs p → After stage q
-  made p q stage (shuffled to child s) none b h =
-      (newest stages (shuffle to child) number.0
-          (λ read. All (LiesWithin (part_count read.body) (reducers_of read.kind)) (plain_rects (part_count child) (target_count to))) e (plain_lie (part_count child) (target_count to)),
-      same_narrow tables stages (stages ++ shuffle to child ∷ []) (moved to child) (plain_read number to child)
-          (same_made (moved to child) (plain_read number to child) (shuffle to child) (shuffled to child s) b) (sent to child none h.1))
-  made p q stage (broadcasted child) none b h =
-      (newest stages (broadcast child) number.0 (λ read. read.kind ≡ kind.Broadcast) e refl,
-      same_narrow tables stages (stages ++ broadcast child ∷ []) (moved target.Broadcast child) (ReadBroadcast number)
-          (same_made (moved target.Broadcast child) (ReadBroadcast number) (broadcast child) (broadcasted child) b) (sent target.Broadcast child none h.1))
-  made p q stage (sampled keys n child) none b h =
-      (carry_moved tables stages (stages ++ sampling keys child ∷ []) (target.Range keys n None) child child (same_later tables stages (sampling keys child ∷ []) child b.1) h.0,
-      later tables stages (sampling keys child ∷ []) child b.1 h.1)
+  made p q stage (shuffled to child s) none b h = (
+    newest stages (shuffle to child) number.0
+        (λ read. All (LiesWithin (part_count read.body) (reducers_of read.kind)) (plain_rects (part_count child) (target_count to))) e (plain_lie (part_count child) (target_count to)),
+    same_narrow tables stages (stages ++ shuffle to child ∷ []) (moved to child) (plain_read number to child)
+        (same_made (moved to child) (plain_read number to child) (shuffle to child) (shuffled to child s) b) (sent to child none h.1),
+  )
+  made p q stage (broadcasted child) none b h = (
+    newest stages (broadcast child) number.0 (λ read. read.kind ≡ kind.Broadcast) e refl,
+    same_narrow tables stages (stages ++ broadcast child ∷ []) (moved target.Broadcast child) (ReadBroadcast number)
+        (same_made (moved target.Broadcast child) (ReadBroadcast number) (broadcast child) (broadcasted child) b) (sent target.Broadcast child none h.1),
+  )
+  made p q stage (sampled keys n child) none b h = (
+    carry_moved tables stages (stages ++ sampling keys child ∷ []) (target.Range keys n None) child child (same_later tables stages (sampling keys child ∷ []) child b.1) h.0,
+    later tables stages (sampling keys child ∷ []) child b.1 h.1,
+  )
   made p q stage (in_kept c x y st m) none b h =
       (carry_kept tables stages (stages ++ st ∷ []) c x y (same_made (kept c x) (kept c y) st (in_kept c x y st m) b) h.0, made x y st m none b.1 h.1)
   made p q stage (in_mapped items x y st m) none b h =
       (carry_mapped tables stages (stages ++ st ∷ []) items x y (same_made (mapped items x) (mapped items y) st (in_mapped items x y st m) b) h.0, made x y st m none b.1 h.1)
   made p q stage (in_moved to x y st m) none b h =
       (carry_moved tables stages (stages ++ st ∷ []) to x y (same_made x y st m b.1) h.0, made x y st m none b.1 h.1)
-  made p q stage (in_left how k keys v w x y other st m) none b h =
-      (carry_matched tables stages (stages ++ st ∷ []) how k keys v w x other y other (same_made x y st m b.1) (same_later tables stages (st ∷ []) other b.2)
-          (same_made (matched how k keys v w x other) (matched how k keys v w y other) st (in_left how k keys v w x y other st m) b) h.0,
-      made x y st m none b.1 h.1, later tables stages (st ∷ []) other b.2 h.2)
-  made p q stage (in_right how k keys v w other x y st m) none b h =
-      (carry_matched tables stages (stages ++ st ∷ []) how k keys v w other x other y (same_later tables stages (st ∷ []) other b.1) (same_made x y st m b.2)
-          (same_made (matched how k keys v w other x) (matched how k keys v w other y) st (in_right how k keys v w other x y st m) b) h.0,
-      later tables stages (st ∷ []) other b.1 h.1, made x y st m none b.2 h.2)
-  made p q stage (in_grouped keys calls x y st m) none b h =
-      (carry_grouped tables stages (stages ++ st ∷ []) keys calls x y (same_made x y st m b.1) (same_made (grouped keys calls x) (grouped keys calls y) st (in_grouped keys calls x y st m) b) h.0,
-      made x y st m none b.1 h.1)
-  made p q stage (in_finished n calls x y st m) none b h =
-      (carry_finished tables stages (stages ++ st ∷ []) n calls x y (same_made x y st m b.1) (same_made (finished n calls x) (finished n calls y) st (in_finished n calls x y st m) b) h.0,
-      made x y st m none b.1 h.1)
-  made p q stage (in_ordered keys x y st m) none b h =
-      (carry_ordered tables stages (stages ++ st ∷ []) keys x y (same_made x y st m b.1) (same_made (ordered keys x) (ordered keys y) st (in_ordered keys x y st m) b) h.0,
-      made x y st m none b.1 h.1)
+  made p q stage (in_left how k keys v w x y other st m) none b h = (
+    carry_matched tables stages (stages ++ st ∷ []) how k keys v w x other y other (same_made x y st m b.1) (same_later tables stages (st ∷ []) other b.2)
+        (same_made (matched how k keys v w x other) (matched how k keys v w y other) st (in_left how k keys v w x y other st m) b) h.0,
+    made x y st m none b.1 h.1,
+    later tables stages (st ∷ []) other b.2 h.2,
+  )
+  made p q stage (in_right how k keys v w other x y st m) none b h = (
+    carry_matched tables stages (stages ++ st ∷ []) how k keys v w other x other y (same_later tables stages (st ∷ []) other b.1) (same_made x y st m b.2)
+        (same_made (matched how k keys v w other x) (matched how k keys v w other y) st (in_right how k keys v w other x y st m) b) h.0,
+    later tables stages (st ∷ []) other b.1 h.1,
+    made x y st m none b.2 h.2,
+  )
+  made p q stage (in_grouped keys calls x y st m) none b h = (
+    carry_grouped tables stages (stages ++ st ∷ []) keys calls x y (same_made x y st m b.1) (same_made (grouped keys calls x) (grouped keys calls y) st (in_grouped keys calls x y st m) b) h.0,
+    made x y st m none b.1 h.1,
+  )
+  made p q stage (in_finished n calls x y st m) none b h = (
+    carry_finished tables stages (stages ++ st ∷ []) n calls x y (same_made x y st m b.1) (same_made (finished n calls x) (finished n calls y) st (in_finished n calls x y st m) b) h.0,
+    made x y st m none b.1 h.1,
+  )
+  made p q stage (in_ordered keys x y st m) none b h = (
+    carry_ordered tables stages (stages ++ st ∷ []) keys x y (same_made x y st m b.1) (same_made (ordered keys x) (ordered keys y) st (in_ordered keys x y st m) b) h.0,
+    made x y st m none b.1 h.1,
+  )
   made p q stage (in_cut_locally n x y st m) none b h =
       (carry_cut_locally tables stages (stages ++ st ∷ []) n x y (same_made (cut_locally n x) (cut_locally n y) st (in_cut_locally n x y st m) b) h.0, made x y st m none b.1 h.1)
   made p q stage (in_cut_globally n k x y st m) none b h =
       (carry_cut_globally tables stages (stages ++ st ∷ []) n k x y (same_made (cut_globally n k x) (cut_globally n k y) st (in_cut_globally n k x y st m) b) h.0, made x y st m none b.1 h.1)
-  made p q stage (in_first x y other st m) none b h =
-      (carry_both_of tables stages (stages ++ st ∷ []) x other y other (same_made (both_of x other) (both_of y other) st (in_first x y other st m) b) h.0,
-      made x y st m none b.1 h.1, later tables stages (st ∷ []) other b.2 h.2)
-  made p q stage (in_second other x y st m) none b h =
-      (carry_both_of tables stages (stages ++ st ∷ []) other x other y (same_made (both_of other x) (both_of other y) st (in_second other x y st m) b) h.0,
-      later tables stages (st ∷ []) other b.1 h.1, made x y st m none b.2 h.2)
+  made p q stage (in_first x y other st m) none b h = (
+    carry_both_of tables stages (stages ++ st ∷ []) x other y other (same_made (both_of x other) (both_of y other) st (in_first x y other st m) b) h.0,
+    made x y st m none b.1 h.1,
+    later tables stages (st ∷ []) other b.2 h.2,
+  )
+  made p q stage (in_second other x y st m) none b h = (
+    carry_both_of tables stages (stages ++ st ∷ []) other x other y (same_made (both_of other x) (both_of other y) st (in_second other x y st m) b) h.0,
+    later tables stages (st ∷ []) other b.1 h.1,
+    made x y st m none b.2 h.2,
+  )
 
 pub made_runs : MakingsKeepRunning
 made_runs tables stages number before after stage e below m none h =

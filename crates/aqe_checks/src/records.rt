@@ -1,8 +1,6 @@
 //! The journal, with ample memory.
 
-use aqe_journal::{
-    FateList, Finish, Journal, QueryRecord, RunList, StageNotes, VersionNotes,
-};
+use aqe_journal::{FateList, Finish, Journal, QueryRecord, RunList, StageNotes, VersionNotes};
 use aqe_values::Rows;
 use std::test::Fail;
 

@@ -228,8 +228,11 @@ not_over_unions = refl
 
 -- SELECT count(*) fits whole
 count_fits : Fits (finished 0 count (grouped [] count plan.OneRow)) (aggregated [] count (field ∷ []) logical.OneRow) [] [] default_values
-count_fits = ((place.Single, groups_here [] count (field ∷ []) 0 logical.OneRow plan.OneRow place.Single place.Single a_row refl refl refl),
-    (uncut, stays_uncut refl, ((tt, tt), tt)), tt)
+count_fits = (
+  (place.Single, groups_here [] count (field ∷ []) 0 logical.OneRow plan.OneRow place.Single place.Single a_row refl refl refl),
+  (uncut, stays_uncut refl, ((tt, tt), tt)),
+  tt,
+)
 
 -- a stage of one map and three reducers, by hash, all of it made
 abbrev made : StageSize

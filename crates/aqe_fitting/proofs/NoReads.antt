@@ -40,7 +40,7 @@ neither false b = refl
 stays : (facts : Facts) (s : Strand) → s.reads ≡ [] → CutOf facts s uncut
 stays facts s e =
     stays_uncut ((λ i. is_on (value_of key.Enabled facts.settings) && (not s.has_exchange && all_made facts.sizes (e i))) ∙
-        neither (is_on (value_of key.Enabled facts.settings)) (not s.has_exchange))
+    neither (is_on (value_of key.Enabled facts.settings)) (not s.has_exchange))
 
 parts : (n : ℕ) (p : Plan) → Each IsNoRead p → HasParts n p
 parts n (Nothing k w) h = absurd h

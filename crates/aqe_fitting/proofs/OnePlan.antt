@@ -31,7 +31,7 @@ one_way estimates sizes values kind x y how other e f = e ∙ sym f
 pub one_place : PlannedAtOnePlace
 one_place plan other x estimates sizes settings u w h g =
     (same (ways_by_sizes estimates sizes (in_force settings)) (partitions settings) (files_of estimates)
-        (one_way estimates sizes (in_force settings)) x plan other u w h g).1
+    (one_way estimates sizes (in_force settings)) x plan other u w h g).1
 
 -- a side that is chosen may be built
 built_by : (kind : JoinKind) (x y : Logical) (chosen : JoinChoice) → BuildsWhatMayBeBuilt kind chosen → may_be_built kind x y (way_of chosen)
@@ -43,14 +43,14 @@ pub buildable : PlannedWithSidesThatMayBeBuilt
 buildable plan x estimates sizes settings w h =
     let values : List Value = in_force settings in
     grows (ways_by_sizes estimates sizes values) may_be_built (partitions settings) (files_of estimates) x plan w
-        (λ kind a b how e.
-            let sides = built_by kind a b (chosen_way kind (side_sizes estimates sizes a) (side_sizes estimates sizes b) (join_rule values))
-                    (built kind (side_sizes estimates sizes a) (side_sizes estimates sizes b) (join_rule values)) in
-            subst (λ (t : JoinWay). may_be_built kind a b t) (sym e) sides)
-        h
+    (λ kind a b how e.
+    let sides = built_by kind a b (chosen_way kind (side_sizes estimates sizes a) (side_sizes estimates sizes b) (join_rule values))
+    (built kind (side_sizes estimates sizes a) (side_sizes estimates sizes b) (join_rule values)) in
+    subst (λ (t : JoinWay). may_be_built kind a b t) (sym e) sides)
+    h
 
 pub one_plan : OnePlanFits
 one_plan plan other x estimates sizes settings h g =
     let alike = (same (ways_by_sizes estimates sizes (in_force settings)) (partitions settings) (files_of estimates)
-        (one_way estimates sizes (in_force settings)) x plan other h.0.0 g.0.0 h.0.1 g.0.1).0 in
+    (one_way estimates sizes (in_force settings)) x plan other h.0.0 g.0.0 h.0.1 g.0.1).0 in
     settled plan other 1 (bodies_same (facts_of x sizes settings) one_list one plan other alike h.1 g.1) h.2 g.2

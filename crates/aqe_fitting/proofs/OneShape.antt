@@ -79,11 +79,12 @@ module _ (ways : Chooses) (n : ℕ) (files : ℕ → ℕ) (one : ChoosesOne ways
       let s = same z q q2 t t2 e e2 in
       let ek : ks ≡ ks2 = cut.0 ∙ sym cut2.0 in
       let ev : v ≡ v2 = cut.1 ∙ sym cut2.1 in
-      let ew : w ≡ w2 = cut.2 ∙ sym cut2.2 in
-      (joins_same k y y2 ks ks2 v v2 w w2 p1 q1 p3 q3 (one k x z y y2 ch ch2) ek ev ew
-          (hash_same n ks.left ks2.left p p2 u u2 p1 p3 (λ i. (ek i).left) r.0 r.1 g1 g3)
-          (hash_same n ks.right ks2.right q q2 t t2 q1 q3 (λ i. (ek i).right) s.0 s.1 g2 g4),
-       out ∙ (λ i. after_join k (ek i) (ev i) (ew i)) ∙ sym out2)
+      let ew : w ≡ w2 = cut.2 ∙ sym cut2.2 in (
+        joins_same k y y2 ks ks2 v v2 w w2 p1 q1 p3 q3 (one k x z y y2 ch ch2) ek ev ew
+            (hash_same n ks.left ks2.left p p2 u u2 p1 p3 (λ i. (ek i).left) r.0 r.1 g1 g3)
+            (hash_same n ks.right ks2.right q q2 t t2 q1 q3 (λ i. (ek i).right) s.0 s.1 g2 g4),
+        out ∙ (λ i. after_join k (ek i) (ev i) (ew i)) ∙ sym out2,
+      )
   same _ _ _ _ _ (by_parts y k c ks v w x z p p1 q q1 u t o d e cut has is ch g1 g2 out) (by_whole_right _ _ ks2 v2 w2 _ _ p2 q2 q3 u2 t2 d2 e2 cut2 has2 ch2 g3) =
       absurd (not_both (is_by_parts y) (is_by_parts (way.Broadcast Right)) (ap is_by_parts (one k x z y (way.Broadcast Right) ch ch2)) is refl)
   same _ _ _ _ _ (by_parts y k c ks v w x z p p1 q q1 u t o d e cut has is ch g1 g2 out) (by_whole_left _ _ ks2 v2 w2 _ _ p2 p3 q2 u2 t2 o2 d2 e2 cut2 has2 ch2 g3 out2) =
@@ -94,9 +95,11 @@ module _ (ways : Chooses) (n : ℕ) (files : ℕ → ℕ) (one : ChoosesOne ways
       absurd (not_both (is_by_parts y2) (is_by_parts (way.Broadcast Right)) (ap is_by_parts (one k x z y2 (way.Broadcast Right) ch2 ch)) is2 refl)
   same _ _ _ _ _ (by_whole_right k c ks v w x z p q q1 u t d e cut has ch g) (by_whole_right _ _ ks2 v2 w2 _ _ p2 q2 q3 u2 t2 d2 e2 cut2 has2 ch2 g3) =
       let r = same x p p2 u u2 d d2 in
-      let s = same z q q2 t t2 e e2 in
-      (joins_same k (way.Broadcast Right) (way.Broadcast Right) ks ks2 v v2 w w2 p q1 p2 q3 refl (cut.0 ∙ sym cut2.0) (cut.1 ∙ sym cut2.1) (cut.2 ∙ sym cut2.2)
-          r.0 (brought_same whole target.Broadcast q q2 t t2 q1 q3 s.0 s.1 g g3), r.1)
+      let s = same z q q2 t t2 e e2 in (
+        joins_same k (way.Broadcast Right) (way.Broadcast Right) ks ks2 v v2 w w2 p q1 p2 q3 refl (cut.0 ∙ sym cut2.0) (cut.1 ∙ sym cut2.1) (cut.2 ∙ sym cut2.2)
+            r.0 (brought_same whole target.Broadcast q q2 t t2 q1 q3 s.0 s.1 g g3),
+        r.1,
+      )
   same _ _ _ _ _ (by_whole_right k c ks v w x z p q q1 u t d e cut has ch g) (by_whole_left _ _ ks2 v2 w2 _ _ p2 p3 q2 u2 t2 o2 d2 e2 cut2 has2 ch2 g3 out2) =
       let wrong = one k x z (way.Broadcast Right) (way.Broadcast Left) ch ch2 in absurd (cc)
   same _ _ _ _ _ (by_whole_right k c ks v w x z p q q1 u t d e cut has ch g) (by_loop _ _ ks2 v2 w2 _ _ p2 p3 q2 q3 u2 t2 d2 e2 cut2 none g3 g4) =
@@ -109,10 +112,11 @@ module _ (ways : Chooses) (n : ℕ) (files : ℕ → ℕ) (one : ChoosesOne ways
       let r = same x p p2 u u2 d d2 in
       let s = same z q q2 t t2 e e2 in
       let ev : v ≡ v2 = cut.1 ∙ sym cut2.1 in
-      let ew : w ≡ w2 = cut.2 ∙ sym cut2.2 in
-      (joins_same k (way.Broadcast Left) (way.Broadcast Left) ks ks2 v v2 w w2 p1 q p3 q2 refl (cut.0 ∙ sym cut2.0) ev ew
-          (brought_same whole target.Broadcast p p2 u u2 p1 p3 r.0 r.1 g g3) s.0,
-       out ∙ (λ i. placed_behind (ev i) (ew i) (s.1 i)) ∙ sym out2)
+      let ew : w ≡ w2 = cut.2 ∙ sym cut2.2 in (
+        joins_same k (way.Broadcast Left) (way.Broadcast Left) ks ks2 v v2 w w2 p1 q p3 q2 refl (cut.0 ∙ sym cut2.0) ev ew
+            (brought_same whole target.Broadcast p p2 u u2 p1 p3 r.0 r.1 g g3) s.0,
+        out ∙ (λ i. placed_behind (ev i) (ew i) (s.1 i)) ∙ sym out2,
+      )
   same _ _ _ _ _ (by_whole_left k c ks v w x z p p1 q u t o d e cut has ch g out) (by_loop _ _ ks2 v2 w2 _ _ p2 p3 q2 q3 u2 t2 d2 e2 cut2 none g3 g4) =
       absurd (not_both (has_keys ks) (has_keys ks2) (ap has_keys (cut.0 ∙ sym cut2.0)) has none)
   same _ _ _ _ _ (by_loop k c ks v w x z p p1 q q1 u t d e cut none g1 g2) (by_parts y2 _ _ ks2 v2 w2 _ _ p2 p3 q2 q3 u2 t2 o2 d2 e2 cut2 has2 is2 ch2 g3 g4 out2) =
@@ -123,13 +127,16 @@ module _ (ways : Chooses) (n : ℕ) (files : ℕ → ℕ) (one : ChoosesOne ways
       absurd (not_both (has_keys ks2) (has_keys ks) (ap has_keys (cut2.0 ∙ sym cut.0)) has2 none)
   same _ _ _ _ _ (by_loop k c ks v w x z p p1 q q1 u t d e cut none g1 g2) (by_loop _ _ ks2 v2 w2 _ _ p2 p3 q2 q3 u2 t2 d2 e2 cut2 none2 g3 g4) =
       let r = same x p p2 u u2 d d2 in
-      let s = same z q q2 t t2 e e2 in
-      (joins_same k way.NestedLoop way.NestedLoop ks ks2 v v2 w w2 p1 q1 p3 q3 refl (cut.0 ∙ sym cut2.0) (cut.1 ∙ sym cut2.1) (cut.2 ∙ sym cut2.2)
-          (brought_same one_part target.Single p p2 u u2 p1 p3 r.0 r.1 g1 g3) (brought_same one_part target.Single q q2 t t2 q1 q3 s.0 s.1 g2 g4), refl)
+      let s = same z q q2 t t2 e e2 in (
+        joins_same k way.NestedLoop way.NestedLoop ks ks2 v v2 w w2 p1 q1 p3 q3 refl (cut.0 ∙ sym cut2.0) (cut.1 ∙ sym cut2.1) (cut.2 ∙ sym cut2.2)
+            (brought_same one_part target.Single p p2 u u2 p1 p3 r.0 r.1 g1 g3) (brought_same one_part target.Single q q2 t t2 q1 q3 s.0 s.1 g2 g4),
+        refl,
+      )
   same _ _ _ _ _ (groups_here ks cs s c x p u o d ok e out) (groups_here _ _ _ c2 _ q w o2 d2 ok2 e2 out2) =
-      let r = same x p q u w d d2 in
-      (finals_same c c2 cs (grouped ks cs p) (grouped ks cs q) (e ∙ sym e2) (partials ks cs p q r.0),
-       out ∙ (λ i. cond (alike_nothing p q r.0 i) place.Single (after_groups ks (r.1 i))) ∙ sym out2)
+      let r = same x p q u w d d2 in (
+        finals_same c c2 cs (grouped ks cs p) (grouped ks cs q) (e ∙ sym e2) (partials ks cs p q r.0),
+        out ∙ (λ i. cond (alike_nothing p q r.0 i) place.Single (after_groups ks (r.1 i))) ∙ sym out2,
+      )
   same _ _ _ _ _ (groups_here ks cs s c x p u o d ok e out) (groups_moved _ _ _ c2 to2 _ q w o2 d2 ok2 e2 t2 out2) =
       let r = same x p q u w d d2 in
       absurd (not_both (serves (groups_of ks) p u) (serves (groups_of ks) q w) (serves_same (groups_of ks) p q u w r.0 r.1) ok ok2)
@@ -139,14 +146,16 @@ module _ (ways : Chooses) (n : ℕ) (files : ℕ → ℕ) (one : ChoosesOne ways
   same _ _ _ _ _ (groups_moved ks cs s c to x p u o d ok e t out) (groups_moved _ _ _ c2 to2 _ q w o2 d2 ok2 e2 t2 out2) =
       let r = same x p q u w d d2 in
       let ec : c ≡ c2 = e ∙ sym e2 in
-      let et : to ≡ to2 = t ∙ ap (groups_target n) ec ∙ sym t2 in
-      (finals_same c c2 cs (moved to (grouped ks cs p)) (moved to2 (grouped ks cs q)) ec
-          (exchanges_same to to2 (grouped ks cs p) (grouped ks cs q) et (partials ks cs p q r.0)),
-       out ∙ ap place_of et ∙ sym out2)
+      let et : to ≡ to2 = t ∙ ap (groups_target n) ec ∙ sym t2 in (
+        finals_same c c2 cs (moved to (grouped ks cs p)) (moved to2 (grouped ks cs q)) ec
+            (exchanges_same to to2 (grouped ks cs p) (grouped ks cs q) et (partials ks cs p q r.0)),
+        out ∙ ap place_of et ∙ sym out2,
+      )
   same _ _ _ _ _ (groups_read st cs s c m r rs o e out) (groups_read _ _ _ c2 m2 r2 rs2 o2 e2 out2) =
-      let ec : c ≡ c2 = e ∙ sym e2 in
-      (finals_same c c2 cs (Read st m r rs) (Read st m2 r2 rs2) ec (reads st m r rs m2 r2 rs2),
-       out ∙ ap (λ k. place_of (groups_target n k)) ec ∙ sym out2)
+      let ec : c ≡ c2 = e ∙ sym e2 in (
+        finals_same c c2 cs (Read st m r rs) (Read st m2 r2 rs2) ec (reads st m r rs m2 r2 rs2),
+        out ∙ ap (λ k. place_of (groups_target n k)) ec ∙ sym out2,
+      )
   same _ _ _ _ _ (a_union x y p q u t d e) (a_union _ _ p2 q2 u2 t2 d2 e2) =
       (unions p q p2 q2 (same x p p2 u u2 d d2).0 (same y q q2 t t2 e e2).0, refl)
   same _ _ _ _ _ (sort_here ks x p u d ok) (sort_here _ _ q w d2 ok2) =
@@ -158,9 +167,11 @@ module _ (ways : Chooses) (n : ℕ) (files : ℕ → ℕ) (one : ChoosesOne ways
       let r = same x p q u w d d2 in
       absurd (not_both (serves (order_of ks) q w) (serves (order_of ks) p u) (sym (serves_same (order_of ks) p q u w r.0 r.1)) ok2 ok)
   same _ _ _ _ _ (sort_moved ks s x p u d ok e) (sort_moved _ s2 _ q w d2 ok2 e2) =
-      let r = same x p q u w d d2 in
-      (sorts ks (moved (target.Range ks n s) p) (moved (target.Range ks n s2) q)
-          (exchanges_same (target.Range ks n s) (target.Range ks n s2) p q (ap (λ k. target.Range ks n k) (e ∙ sym e2)) r.0), refl)
+      let r = same x p q u w d d2 in (
+        sorts ks (moved (target.Range ks n s) p) (moved (target.Range ks n s2) q)
+            (exchanges_same (target.Range ks n s) (target.Range ks n s2) p q (ap (λ k. target.Range ks n k) (e ∙ sym e2)) r.0),
+        refl,
+      )
   same _ _ _ _ _ (limit_here c s x p u d ok) (limit_here _ _ _ q w d2 ok2) =
       let r = same x p q u w d d2 in (global_limits c s p q r.0, r.1)
   same _ _ _ _ _ (limit_here _ s x p u d ok) (limit_moved c2 _ f2 _ q w d2 ok2 e2) =
@@ -173,10 +184,12 @@ module _ (ways : Chooses) (n : ℕ) (files : ℕ → ℕ) (one : ChoosesOne ways
       let r = same x p q u w d d2 in
       absurd (not_both (serves one_part q w) (serves one_part p u) (sym (serves_same one_part p q u w r.0 r.1)) ok2 ok)
   same _ _ _ _ _ (limit_moved c s f x p u d ok e) (limit_moved _ _ f2 _ q w d2 ok2 e2) =
-      let r = same x p q u w d d2 in
-      (global_limits (Some c) s (moved target.Single (cut_locally f p)) (moved target.Single (cut_locally f2 q))
-          (exchanges target.Single (cut_locally f p) (cut_locally f2 q)
-              (subst (λ (t : Plan). Alike (cut_locally f p) t) (λ i. cut_locally ((e ∙ sym e2) i) q) (local_limits f p q r.0))), refl)
+      let r = same x p q u w d d2 in (
+        global_limits (Some c) s (moved target.Single (cut_locally f p)) (moved target.Single (cut_locally f2 q))
+            (exchanges target.Single (cut_locally f p) (cut_locally f2 q)
+            (subst (λ (t : Plan). Alike (cut_locally f p) t) (λ i. cut_locally ((e ∙ sym e2) i) q) (local_limits f p q r.0))),
+        refl,
+      )
   same _ _ _ _ _ (skip_moved s x p u d ok) (limit_here _ _ _ q w d2 ok2) =
       let r = same x p q u w d d2 in
       absurd (not_both (serves one_part q w) (serves one_part p u) (sym (serves_same one_part p q u w r.0 r.1)) ok2 ok)

@@ -63,9 +63,10 @@ number_of_tasks values = cond (is_on (value_of key.ParallelismFirst values)) (nu
 
 abbrev pub skew_rule : List Value → SkewRule
 skew_rule values = record {
-    factor_thousandths = number_or 0 (value_of key.SkewFactor values);
-    threshold = number_or 0 (value_of key.SkewThreshold values);
-    advisory = number_or 0 (value_of key.Advisory values) }
+  factor_thousandths = number_or 0 (value_of key.SkewFactor values);
+  threshold = number_or 0 (value_of key.SkewThreshold values);
+  advisory = number_or 0 (value_of key.Advisory values);
+}
 
 -- what is known: the sizes of stages, where their rows stand, and the settings
 pub record Facts : Type 0 where
@@ -116,7 +117,7 @@ strand_sizes facts s = fold (λ sizes stage. added sizes (sizes_at (cells_of fac
 abbrev pub strand_target : Facts → Strand → ℕ
 strand_target facts s =
     target_of (sum (strand_sizes facts s)) (number_of_tasks facts.settings)
-        (number_or 0 (value_of key.Advisory facts.settings)) (number_or 0 (value_of key.MinPartition facts.settings))
+    (number_or 0 (value_of key.Advisory facts.settings)) (number_or 0 (value_of key.MinPartition facts.settings))
 
 abbrev pub coalesces : Facts → Strand → Bool
 coalesces facts s = is_on (value_of key.Coalesce facts.settings) && list_all (λ stage. is_split_by_keys (facts.place stage)) s.reads

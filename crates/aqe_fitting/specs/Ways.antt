@@ -60,11 +60,12 @@ first_threshold values = threshold_or (pos 0) (value_of key.FirstThreshold value
 
 abbrev pub join_rule : List Value → JoinRule
 join_rule values = record {
-    first_threshold = first_threshold values;
-    adaptive_threshold = threshold_or (first_threshold values) (value_of key.AdaptiveThreshold values);
-    ratio_thousandths = number_or 0 (value_of key.Ratio values);
-    local_map = number_or 0 (value_of key.LocalMap values);
-    advisory = number_or 0 (value_of key.Advisory values) }
+  first_threshold = first_threshold values;
+  adaptive_threshold = threshold_or (first_threshold values) (value_of key.AdaptiveThreshold values);
+  ratio_thousandths = number_or 0 (value_of key.Ratio values);
+  local_map = number_or 0 (value_of key.LocalMap values);
+  advisory = number_or 0 (value_of key.Advisory values);
+}
 
 abbrev pub way_of : JoinChoice → JoinWay
 way_of (chosen.Broadcast side) = way.Broadcast side

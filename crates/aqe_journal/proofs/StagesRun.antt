@@ -196,7 +196,8 @@ kept_more tables stages more stage k =
       below = All-weaker (ReadsBelowAt (length stages)) (ReadsBelowAt (length (stages ++ more))) (below_up (length stages) (length (stages ++ more)) (omega (arith, long))) (nodes stage.body) k.below;
       keeps = keep_more stages (stages ++ more) stage.kind (all tables stages stage.body) (all tables (stages ++ more) stage.body) k.sends
           (sym (ap joined_parts (parts_stay tables stages more stage.body k.below))) k.keeps;
-      sends = k.sends }
+      sends = k.sends;
+    }
 
 record Steady (asked : Asked) (now : State) : Type 0 where
   runs : RunsOver asked.tables now.stages now.plan
@@ -222,19 +223,21 @@ step asked now making s at none =
     let free = each IsNoRange now.plan s.ranges in
     let run = bodies asked.tables now.stages number now.plan next making.stage m none s.ranges s.runs in
     let old : Kept asked.tables now.stages making.stage = record {
-          runs = all_nodes (RunsAt asked.tables now.stages) making.stage.body
-              (body_each (RunsAt asked.tables now.stages) number now.plan next making.stage m (each (RunsAt asked.tables now.stages) now.plan s.runs));
-          none = none;
-          below = all_nodes (ReadsBelowAt (length now.stages)) making.stage.body
-              (body_each (ReadsBelowAt (length now.stages)) number now.plan next making.stage m (each (ReadsBelowAt (length now.stages)) now.plan s.below));
-          keeps = run.1;
-          sends = kind_of number now.plan next making.stage m free } in
+      runs = all_nodes (RunsAt asked.tables now.stages) making.stage.body
+          (body_each (RunsAt asked.tables now.stages) number now.plan next making.stage m (each (RunsAt asked.tables now.stages) now.plan s.runs));
+      none = none;
+      below = all_nodes (ReadsBelowAt (length now.stages)) making.stage.body
+          (body_each (ReadsBelowAt (length now.stages)) number now.plan next making.stage m (each (ReadsBelowAt (length now.stages)) now.plan s.below));
+      keeps = run.1;
+      sends = kind_of number now.plan next making.stage m free;
+    } in
     record {
       runs = made_runs asked.tables now.stages number now.plan next making.stage refl s.below m none s.runs;
       below = made_reads_below now.stages number now.plan next making.stage refl s.below m;
       ranges = all_nodes IsNoRange next (ranges_stay number now.plan next making.stage m free);
       made = all_more asked.tables now.stages making.stage s.made (kept_more asked.tables now.stages (making.stage ∷ []) making.stage old);
-      born = stage_born now making s.born }
+      born = stage_born now making s.born;
+    }
 
 -- nothing stands at the top but an exchange, or nothing is replaced there
 stays_put : (new : Target → Plan → Plan) (p : Plan) → IsNoExchange p → exchange_replaced new [] p ≡ p
@@ -264,7 +267,7 @@ result_step : (asked : Asked) (now : State) → Steady asked now → WithoutExch
 result_step asked now s none =
     let more : Stages = record { kind = kind.Result; body = now.plan } ∷ [] in
     let put : after (number_of (length now.stages)) [] now.plan ≡ now.plan =
-          stays_put (read_after (number_of (length now.stages))) now.plan (first_of IsNoExchange now.plan (each IsNoExchange now.plan none)) in
+    stays_put (read_after (number_of (length now.stages))) now.plan (first_of IsNoExchange now.plan (each IsNoExchange now.plan none)) in
     let long = length-append now.stages more in
     record {
       runs = subst (RunsOver asked.tables (now.stages ++ more)) (sym put) (later_runs asked.tables now.stages more now.plan s.below s.runs);
@@ -273,7 +276,8 @@ result_step asked now s none =
       ranges = subst WithoutRange (sym put) s.ranges;
       made = all_more asked.tables now.stages (record { kind = kind.Result; body = now.plan }) s.made
           (kept_more asked.tables now.stages more (record { kind = kind.Result; body = now.plan }) (result_kept asked.tables now.stages now.plan s.runs s.below none));
-      born = stage_born now (result_of now.plan) s.born }
+      born = stage_born now (result_of now.plan) s.born;
+    }
 
 -- all stages that can be made at a position
 all_steps : (asked : Asked) (whole : ℕ → Bool) (ms : List Making) (now : State) → Steady asked now → ((s : ℕ) → length now.stages ≤ s → whole s ≡ false) →
@@ -281,9 +285,9 @@ all_steps : (asked : Asked) (whole : ℕ → Bool) (ms : List Making) (now : Sta
 all_steps asked whole [] now s unborn e = s
 all_steps asked whole (m ∷ ms) now s unborn e =
     let at = All-head (λ (making : Making). stage_at making.place now.plan ≡ Some making.stage) m ms
-          (subst (All (λ (making : Making). stage_at making.place now.plan ≡ Some making.stage)) e (standing whole now.plan)) in
+    (subst (All (λ (making : Making). stage_at making.place now.plan ≡ Some making.stage)) e (standing whole now.plan)) in
     let ready = All-head (λ (making : Making). is_ready whole making.stage.body ≡ true) m ms
-          (subst (All (λ (making : Making). is_ready whole making.stage.body ≡ true)) e (are_ready whole now.plan)) in
+    (subst (All (λ (making : Making). is_ready whole making.stage.body ≡ true)) e (are_ready whole now.plan)) in
     let next = step asked now m s at (all_nodes IsNoExchange m.stage.body (no_exchange whole m.stage.body ready)) in
     let long = length-append now.stages (m.stage ∷ []) in
     all_steps asked whole ms (with_stage now m) next (λ k le. unborn k (omega (arith, long, le)))
@@ -296,12 +300,13 @@ settle_ready asked now false s none = result_step asked now s none
 
 settle : (asked : Asked) (now : State) → Steady asked now → Steady asked (settled now)
 settle asked now s = elim (cases_Bool (is_ready (is_materialised now) now.plan)) [
-    inl t ↦ subst (λ (ms : List Making). Steady asked (fold with_stage now ms))
-        (sym (λ i. none_other (is_materialised now) now.plan t i ++ cond (t i && not (has_result now.stages)) (result_of now.plan ∷ []) []))
-        (settle_ready asked now (has_result now.stages) s (all_nodes IsNoExchange now.plan (no_exchange (is_materialised now) now.plan t)))
+  | inl t ↦ subst (λ (ms : List Making). Steady asked (fold with_stage now ms))
+      (sym (λ i. none_other (is_materialised now) now.plan t i ++ cond (t i && not (has_result now.stages)) (result_of now.plan ∷ []) []))
+      (settle_ready asked now (has_result now.stages) s (all_nodes IsNoExchange now.plan (no_exchange (is_materialised now) now.plan t)))
   | inr f ↦ subst (λ (ms : List Making). Steady asked (fold with_stage now ms))
-        (sym ((λ i. makings (is_materialised now) now.plan ++ cond (f i && not (has_result now.stages)) (result_of now.plan ∷ []) []) ∙ append-nil (makings (is_materialised now) now.plan)))
-        (all_steps asked (is_materialised now) (makings (is_materialised now) now.plan) now s (not_materialised now s.born) refl) ]
+      (sym ((λ i. makings (is_materialised now) now.plan ++ cond (f i && not (has_result now.stages)) (result_of now.plan ∷ []) []) ∙ append-nil (makings (is_materialised now) now.plan)))
+      (all_steps asked (is_materialised now) (makings (is_materialised now) now.plan) now s (not_materialised now s.born) refl)
+]
 
 marked : (asked : Asked) (now : State) → Steady asked now → Steady asked (with_marks now)
 marked asked now s = record { runs = s.runs; below = s.below; ranges = s.ranges; made = s.made; born = marks_born now s.born }
@@ -347,13 +352,14 @@ module _ (ways : JoinKind → Logical → Logical → JoinWay → Type 0) (n : �
 start : (asked : Asked) (plan : Plan) → IsSound asked → IsFirst asked plan → Steady asked (first_state asked.query plan)
 start asked plan sound first =
     let q = quiet (ways_by_sizes asked.estimates [] (in_force asked.settings)) (partitions asked.settings) (files_of asked.estimates) asked.query plan first.0.0 first.0.1
-          (logical_walk.each IsPlannedYet asked.query sound.planned) (logical_walk.each IsOfAQuery asked.query sound.closed) in
+    (logical_walk.each IsPlannedYet asked.query sound.planned) (logical_walk.each IsOfAQuery asked.query sound.closed) in
     record {
       runs = (fitting_stand asked.tables [] plan asked.query asked.estimates [] asked.settings sound.parts sound.formed sound.closed sound.planned sound.wide sound.files first).1;
       below = all_nodes (ReadsBelowAt 0) plan q.1;
       ranges = all_nodes IsNoRange plan q.0;
       made = All-nil (Kept asked.tables []);
-      born = refl }
+      born = refl;
+    }
 
 clash : false ≡ true → ⊥
 clash h = cc (h)
@@ -374,10 +380,11 @@ steady asked now sound (begun plan first) =
 steady asked now sound (one_on before next event far r n t) = taken asked before next event t (steady asked before sound far)
 
 carried_out : (tables : Tables) (stages : Stages) (stage : Stage) → Kept tables stages stage → CanBeCarriedOut tables stages stage
-carried_out tables stages stage k =
-    (first_of (λ body. WithoutExchange body → Runnable tables stages body) stage.body
-        (each (λ body. WithoutExchange body → Runnable tables stages body) stage.body (bodies_run tables stages stage.body k.runs)) k.none,
-    k.keeps)
+carried_out tables stages stage k = (
+  first_of (λ body. WithoutExchange body → Runnable tables stages body) stage.body
+      (each (λ body. WithoutExchange body → Runnable tables stages body) stage.body (bodies_run tables stages stage.body k.runs)) k.none,
+  k.keeps,
+)
 
 pub stages_run : StagesOfRunsRun
 stages_run asked now sound far =
