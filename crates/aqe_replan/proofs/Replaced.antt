@@ -1,5 +1,5 @@
 -- What the code puts in the place of an exchange is what the definitions do, if the stage is that of the exchange.
-use Rattle.std.proofs.Common.{◌≡◌, ℕ, Bool, true, false, List, [], ◌∷◌, Option, Some, None, refl, ap, sym, ◌∙◌, inl, inr}
+use Rattle.std.proofs.Common.{◌≡◌, ℕ, Bool, true, false, List, [], ◌∷◌, Option, Some, None, refl, ap, sym, subst, ◌∙◌, inl, inr}
 use Rattle.std.specs.Prelude.{cond, ◌⊎◌}
 use Rattle.aqe_base.specs.declared.stage_id.StageId.{StageId}
 use Rattle.aqe_base.specs.declared.join_kind.Side.TheVariants.{Left, Right}
@@ -7,12 +7,15 @@ use Rattle.aqe_physical.specs.declared.target.Target.{Target}
 use Rattle.aqe_physical.specs.declared.target.Target.TheVariants.{Hash, Range, Single, Broadcast}
 use Rattle.aqe_physical.specs.declared.plan.Plan.{Plan}
 use Rattle.aqe_physical.specs.Shapes.{kept, mapped, moved, matched, grouped, finished, ordered, cut_locally, cut_globally, both_of}
-use Rattle.aqe_physical.specs.Counts.{part_count}
+use Rattle.aqe_physical.specs.Counts.{part_count, PartsFit}
 use Rattle.aqe_stages.specs.Stages.{Stage}
 use Rattle.aqe_making.specs.Makings.{Place, Making, stage_of}
 use Rattle.aqe_making.specs.After.{after, read_after, stage_at}
 use Rattle.aqe_making.proofs.Lists.{no_stage, same_stage}
 use Rattle.aqe_making.proofs.Standing.{body_of}
+use Rattle.aqe_making.proofs.Fitting.{body_fits, still_fit}
+use Rattle.aqe_replan.specs.declared.making.Making as code
+use Rattle.aqe_replan.specs.Seen.{seen}
 use Rattle.aqe_replan.specs.Reading.{read_with, replaced_with}
 use Rattle.aqe_replan.specs.Versions.{is_result, CanBeMade, IsAfter, taken, noted, plan_after, result_after}
 
@@ -42,13 +45,18 @@ same_after number (Right ∷ place) (both_of p q) stage e = ap (λ (r : Plan). b
 same_after number place plan stage e = absurd (no_stage stage e)
 
 -- an exchange that was made
-pub exchange_made : (number : StageId) (making : Making) (plan new : Plan) (maps : ℕ) → CanBeMade plan making → is_result making.stage.kind ≡ false → maps ≡ part_count making.stage.body →
-    new ≡ replaced_with number maps making.place plan → new ≡ after number making.place plan
-exchange_made number making plan new maps (inl yes) no m e = absurd (let bad : true ≡ false = sym yes ∙ no in cc bad)
-exchange_made number making plan new maps (inr stands) no m e =
-    e ∙ (ap (λ (n : ℕ). replaced_with number n making.place plan) m ∙ same_after number making.place plan making.stage stands)
+pub exchange_made : (number : StageId) (making : code.Making) (place : Place) (plan new : Plan) (maps : ℕ) → CanBeMade plan (seen making) → is_result making.kind ≡ false →
+    maps ≡ part_count making.body → place ≡ making.place → new ≡ replaced_with number maps place plan → new ≡ after number making.place plan
+exchange_made number making place plan new maps (inl so) no m p e = absurd (let bad : true ≡ false = sym so ∙ no in cc bad)
+exchange_made number making place plan new maps (inr stands) no m p e =
+    e ∙ ((λ i. replaced_with number (m i) (p i) plan) ∙ same_after number making.place plan (record { kind = making.kind; body = making.body }) stands)
 
-pub ruleset after_steps = (exchange_made)
+-- the parts of the body of an exchange that stands in the plan can be numbered
+pub body_fits_here : (making : code.Making) (plan : Plan) → CanBeMade plan (seen making) → is_result making.kind ≡ false → PartsFit plan → PartsFit making.body
+body_fits_here making plan (inl so) no h = absurd (let bad : true ≡ false = sym so ∙ no in cc bad)
+body_fits_here making plan (inr stands) no h = body_fits making.place plan (record { kind = making.kind; body = making.body }) stands h
+
+pub ruleset after_steps = (exchange_made, body_fits_here)
 
 -- what is taken is the plan after
 pub plan_taken : (number : StageId) (making : Making) (plan new : Plan) (next : Option Plan) → IsAfter number making plan next → new ≡ taken next plan → new ≡ plan_after number making plan
@@ -59,4 +67,9 @@ pub result_noted : (number : StageId) (making : Making) (plan : Plan) (before ne
 result_noted number making plan before new None is e = e ∙ ap (λ (b : Bool). cond b true before) (sym is)
 result_noted number making plan before new (Some next) is e = e ∙ ap (λ (b : Bool). cond b true before) (sym is.0)
 
-pub ruleset made_steps = (plan_taken, result_noted)
+-- and so can those of the plan after
+pub taken_fits : (number : StageId) (making : Making) (plan new : Plan) (next : Option Plan) → IsAfter number making plan next → new ≡ taken next plan → PartsFit plan → PartsFit new
+taken_fits number making plan new None is e h = subst PartsFit (sym e) h
+taken_fits number making plan new (Some next) is e h = subst PartsFit (sym (e ∙ is.1)) (still_fit number making.place plan h)
+
+pub ruleset made_steps = (plan_taken, result_noted, taken_fits)

@@ -12,6 +12,10 @@ use Rattle.aqe_logical.specs.declared.plan.AggCall.{AggCall}
 use Rattle.aqe_logical.specs.declared.plan.SortKey.{SortKey}
 use Rattle.aqe_join_rows.specs.declared.join_keys.JoinKeys.{JoinKeys}
 use Rattle.aqe_physical.specs.declared.target.Target.{Target}
+use Rattle.aqe_physical.specs.declared.target.Target.TheVariants.{Range}
+use Rattle.aqe_physical.specs.declared.target.StageKind.{StageKind}
+use Rattle.aqe_physical.specs.declared.plan.Joining.{Joining}
+use Rattle.aqe_physical.specs.Forms.{join_of}
 use Rattle.aqe_physical.specs.declared.target.JoinWay.{JoinWay}
 use Rattle.aqe_physical.specs.declared.plan.Plan.{Plan}
 use Rattle.aqe_physical.specs.declared.plan.Plan.TheVariants.{Filter, Project, Exchange, Join, PartialAgg, FinalAgg, Sort, LocalLimit, GlobalLimit, Union}
@@ -21,10 +25,14 @@ use Rattle.aqe_base.specs.declared.cells.Rect.{Rect}
 use Rattle.aqe_rects.specs.Rectangles.{plain_rect, plain_rects}
 use Rattle.aqe_making.specs.Ready.{is_ready}
 use Rattle.aqe_making.specs.Makings as spec
-use Rattle.aqe_making.specs.Makings.{makings, made_here, below}
+use Rattle.aqe_making.specs.Makings.{makings, made_here, below, stage_of}
+use Rattle.aqe_making.proofs.Standing.{body_of}
 use Rattle.aqe_replan.specs.declared.making.Making.{Making}
-use Rattle.aqe_replan.specs.Seen.{standing, all_standing}
+use Rattle.aqe_replan.specs.Seen.{standing, all_standing, both_standing}
 use Rattle.aqe_replan.specs.Reading.{read_with, replaced_with}
+
+pub joining_is : (r : Result Joining Memory) (c j : Joining) → r ≡ Ok c → IfOk r (λ q. q ≡ j) → c ≡ j
+joining_is r c j e h = subst (λ (x : Result Joining Memory). IfOk x (λ q. q ≡ j)) e h
 
 -- a result that is there is what it has to be
 pub it_is : (r : Result Plan Memory) (c p : Plan) → r ≡ Ok c → IfOk r (λ q. q ≡ p) → c ≡ p
@@ -105,60 +113,118 @@ makings-exchange whole place x t q old mid new e first then =
     ap (λ (zs : List Making). old ++ zs) (ap (λ (ys : List Making). ys ++ all_standing place (made_here whole t q)) (lifted place Left (makings whole q)) ∙
     (sym (split place (map (below Left) (makings whole q)) (made_here whole t q)) ∙ sym (ap (λ (p : Plan). all_standing place (makings whole p)) (e ∙ is_moved t q))))
 
-two : (whole : ℕ → Bool) (place : spec.Place) (x l r : Plan) (old mid new : List Making) → makings whole x ≡ map (below Left) (makings whole l) ++ map (below Right) (makings whole r) →
-    mid ≡ old ++ all_standing (place ++ Left ∷ []) (makings whole l) → new ≡ mid ++ all_standing (place ++ Right ∷ []) (makings whole r) → new ≡ old ++ all_standing place (makings whole x)
-two whole place x l r old mid new e first then =
-    pushed place old mid new (all_standing (place ++ Left ∷ []) (makings whole l)) (all_standing (place ++ Right ∷ []) (makings whole r)) first then ∙
-    ap (λ (zs : List Making). old ++ zs) ((λ i. lifted place Left (makings whole l) i ++ lifted place Right (makings whole r) i) ∙
+-- the makings of the two plans below a node, one after the other
+pub both_pushed : (whole : ℕ → Bool) (place : spec.Place) (l r : Plan) (old mid new : List Making) →
+    mid ≡ old ++ all_standing (place ++ Left ∷ []) (makings whole l) → new ≡ mid ++ all_standing (place ++ Right ∷ []) (makings whole r) → new ≡ old ++ both_standing whole place l r
+both_pushed whole place l r old mid new first then =
+    pushed place old mid new (all_standing (place ++ Left ∷ []) (makings whole l)) (all_standing (place ++ Right ∷ []) (makings whole r)) first then
+
+two : (whole : ℕ → Bool) (place : spec.Place) (x l r : Plan) (old new : List Making) → makings whole x ≡ map (below Left) (makings whole l) ++ map (below Right) (makings whole r) →
+    new ≡ old ++ both_standing whole place l r → new ≡ old ++ all_standing place (makings whole x)
+two whole place x l r old new e h =
+    h ∙ ap (λ (zs : List Making). old ++ zs) ((λ i. lifted place Left (makings whole l) i ++ lifted place Right (makings whole r) i) ∙
     (sym (split place (map (below Left) (makings whole l)) (map (below Right) (makings whole r))) ∙ sym (ap (all_standing place) e)))
 
-pub makings-join : (whole : ℕ → Bool) (place : spec.Place) (x : Plan) (y : JoinWay) (k : JoinKind) (ks : JoinKeys) (v w : ℕ) (l r : Plan) (old mid new : List Making) → x ≡ Join y k ks v w l r →
-    mid ≡ old ++ all_standing (place ++ Left ∷ []) (makings whole l) → new ≡ mid ++ all_standing (place ++ Right ∷ []) (makings whole r) → new ≡ old ++ all_standing place (makings whole x)
-makings-join whole place x y k ks v w l r old mid new e first then = two whole place x l r old mid new (ap (makings whole) (e ∙ is_matched y k ks v w l r)) first then
+pub makings-join : (whole : ℕ → Bool) (place : spec.Place) (x : Plan) (y : JoinWay) (k : JoinKind) (ks : JoinKeys) (v w : ℕ) (l r : Plan) (old new : List Making) → x ≡ Join y k ks v w l r →
+    new ≡ old ++ both_standing whole place l r → new ≡ old ++ all_standing place (makings whole x)
+makings-join whole place x y k ks v w l r old new e h = two whole place x l r old new (ap (makings whole) (e ∙ is_matched y k ks v w l r)) h
 
-pub makings-union : (whole : ℕ → Bool) (place : spec.Place) (x l r : Plan) (old mid new : List Making) → x ≡ Union l r →
-    mid ≡ old ++ all_standing (place ++ Left ∷ []) (makings whole l) → new ≡ mid ++ all_standing (place ++ Right ∷ []) (makings whole r) → new ≡ old ++ all_standing place (makings whole x)
-makings-union whole place x l r old mid new e first then = two whole place x l r old mid new (ap (makings whole) (e ∙ is_both_of l r)) first then
+pub makings-union : (whole : ℕ → Bool) (place : spec.Place) (x l r : Plan) (old new : List Making) → x ≡ Union l r →
+    new ≡ old ++ both_standing whole place l r → new ≡ old ++ all_standing place (makings whole x)
+makings-union whole place x l r old new e h = two whole place x l r old new (ap (makings whole) (e ∙ is_both_of l r)) h
 
-pub ruleset making_steps = (makings-filter, makings-project, makings-partial, makings-last, makings-sort, makings-local, makings-global, makings-exchange, makings-join, makings-union)
+pub ruleset making_steps = (makings-filter, makings-project, makings-partial, makings-last, makings-sort, makings-local, makings-global, makings-exchange, makings-join, makings-union, both_pushed)
 
-pub left-filter : (stage : StageId) (maps : ℕ) (place : spec.Place) (x : Plan) (c : Expr) (q : Plan) → x ≡ Filter c q → replaced_with stage maps (Left ∷ place) x ≡ Filter c (replaced_with stage maps place q)
-left-filter stage maps place x c q e = ap (replaced_with stage maps (Left ∷ place)) (e ∙ is_kept c q) ∙ sym (is_kept c (replaced_with stage maps place q))
+-- what a function gives of the results of those that it calls is what has to be given
+abbrev Is : Result Plan Memory → Plan → Type 0
+Is r p = IfOk r (λ q. q ≡ p)
 
-pub left-project : (stage : StageId) (maps : ℕ) (place : spec.Place) (x : Plan) (i : List Expr) (q : Plan) → x ≡ Project i q → replaced_with stage maps (Left ∷ place) x ≡ Project i (replaced_with stage maps place q)
-left-project stage maps place x i q e = ap (replaced_with stage maps (Left ∷ place)) (e ∙ is_mapped i q) ∙ sym (is_mapped i (replaced_with stage maps place q))
+is_so : (r : Result Plan Memory) (p q : Plan) → p ≡ q → Is r p → Is r q
+is_so r p q e h = subst (Is r) e h
 
-pub left-exchange : (stage : StageId) (maps : ℕ) (place : spec.Place) (x : Plan) (t : Target) (q : Plan) → x ≡ Exchange t q → replaced_with stage maps (Left ∷ place) x ≡ Exchange t (replaced_with stage maps place q)
-left-exchange stage maps place x t q e = ap (replaced_with stage maps (Left ∷ place)) (e ∙ is_moved t q) ∙ sym (is_moved t (replaced_with stage maps place q))
+pub left-filter : (stage : StageId) (maps : ℕ) (place : spec.Place) (child r : Result Plan Memory) (x : Plan) (c : Expr) (q : Plan) → x ≡ Filter c q →
+    ((p : Plan) → IfOk child (λ d. d ≡ p) → IfOk r (λ z. z ≡ Filter c p)) → IfOk child (λ d. d ≡ replaced_with stage maps place q) → IfOk r (λ z. z ≡ replaced_with stage maps (Left ∷ place) x)
+left-filter stage maps place child r x c q e h k =
+    is_so r (Filter c (replaced_with stage maps place q)) (replaced_with stage maps (Left ∷ place) x)
+    (is_kept c (replaced_with stage maps place q) ∙ sym (ap (replaced_with stage maps (Left ∷ place)) (e ∙ is_kept c q))) (h (replaced_with stage maps place q) k)
 
-pub left-partial : (stage : StageId) (maps : ℕ) (place : spec.Place) (x : Plan) (ks : List Expr) (cs : List AggCall) (q : Plan) → x ≡ PartialAgg ks cs q → replaced_with stage maps (Left ∷ place) x ≡ PartialAgg ks cs (replaced_with stage maps place q)
-left-partial stage maps place x ks cs q e = ap (replaced_with stage maps (Left ∷ place)) (e ∙ is_grouped ks cs q) ∙ sym (is_grouped ks cs (replaced_with stage maps place q))
+pub left-project : (stage : StageId) (maps : ℕ) (place : spec.Place) (child r : Result Plan Memory) (x : Plan) (i : List Expr) (q : Plan) → x ≡ Project i q →
+    ((p : Plan) → IfOk child (λ d. d ≡ p) → IfOk r (λ z. z ≡ Project i p)) → IfOk child (λ d. d ≡ replaced_with stage maps place q) → IfOk r (λ z. z ≡ replaced_with stage maps (Left ∷ place) x)
+left-project stage maps place child r x i q e h k =
+    is_so r (Project i (replaced_with stage maps place q)) (replaced_with stage maps (Left ∷ place) x)
+    (is_mapped i (replaced_with stage maps place q) ∙ sym (ap (replaced_with stage maps (Left ∷ place)) (e ∙ is_mapped i q))) (h (replaced_with stage maps place q) k)
 
-pub left-last : (stage : StageId) (maps : ℕ) (place : spec.Place) (x : Plan) (k : ℕ) (cs : List AggCall) (q : Plan) → x ≡ FinalAgg k cs q → replaced_with stage maps (Left ∷ place) x ≡ FinalAgg k cs (replaced_with stage maps place q)
-left-last stage maps place x k cs q e = ap (replaced_with stage maps (Left ∷ place)) (e ∙ is_finished k cs q) ∙ sym (is_finished k cs (replaced_with stage maps place q))
+pub left-exchange : (stage : StageId) (maps : ℕ) (place : spec.Place) (child r : Result Plan Memory) (x : Plan) (t : Target) (q : Plan) → x ≡ Exchange t q →
+    ((p : Plan) → IfOk child (λ d. d ≡ p) → IfOk r (λ z. z ≡ Exchange t p)) → IfOk child (λ d. d ≡ replaced_with stage maps place q) → IfOk r (λ z. z ≡ replaced_with stage maps (Left ∷ place) x)
+left-exchange stage maps place child r x t q e h k =
+    is_so r (Exchange t (replaced_with stage maps place q)) (replaced_with stage maps (Left ∷ place) x)
+    (is_moved t (replaced_with stage maps place q) ∙ sym (ap (replaced_with stage maps (Left ∷ place)) (e ∙ is_moved t q))) (h (replaced_with stage maps place q) k)
 
-pub left-sort : (stage : StageId) (maps : ℕ) (place : spec.Place) (x : Plan) (ks : List SortKey) (q : Plan) → x ≡ Sort ks q → replaced_with stage maps (Left ∷ place) x ≡ Sort ks (replaced_with stage maps place q)
-left-sort stage maps place x ks q e = ap (replaced_with stage maps (Left ∷ place)) (e ∙ is_ordered ks q) ∙ sym (is_ordered ks (replaced_with stage maps place q))
+pub left-partial : (stage : StageId) (maps : ℕ) (place : spec.Place) (child r : Result Plan Memory) (x : Plan) (ks : List Expr) (cs : List AggCall) (q : Plan) → x ≡ PartialAgg ks cs q →
+    ((p : Plan) → IfOk child (λ d. d ≡ p) → IfOk r (λ z. z ≡ PartialAgg ks cs p)) → IfOk child (λ d. d ≡ replaced_with stage maps place q) → IfOk r (λ z. z ≡ replaced_with stage maps (Left ∷ place) x)
+left-partial stage maps place child r x ks cs q e h k =
+    is_so r (PartialAgg ks cs (replaced_with stage maps place q)) (replaced_with stage maps (Left ∷ place) x)
+    (is_grouped ks cs (replaced_with stage maps place q) ∙ sym (ap (replaced_with stage maps (Left ∷ place)) (e ∙ is_grouped ks cs q))) (h (replaced_with stage maps place q) k)
 
-pub left-local : (stage : StageId) (maps : ℕ) (place : spec.Place) (x : Plan) (k : ℕ) (q : Plan) → x ≡ LocalLimit k q → replaced_with stage maps (Left ∷ place) x ≡ LocalLimit k (replaced_with stage maps place q)
-left-local stage maps place x k q e = ap (replaced_with stage maps (Left ∷ place)) (e ∙ is_cut_locally k q) ∙ sym (is_cut_locally k (replaced_with stage maps place q))
+pub left-last : (stage : StageId) (maps : ℕ) (place : spec.Place) (child r : Result Plan Memory) (x : Plan) (k : ℕ) (cs : List AggCall) (q : Plan) → x ≡ FinalAgg k cs q →
+    ((p : Plan) → IfOk child (λ d. d ≡ p) → IfOk r (λ z. z ≡ FinalAgg k cs p)) → IfOk child (λ d. d ≡ replaced_with stage maps place q) → IfOk r (λ z. z ≡ replaced_with stage maps (Left ∷ place) x)
+left-last stage maps place child r x k cs q e h k =
+    is_so r (FinalAgg k cs (replaced_with stage maps place q)) (replaced_with stage maps (Left ∷ place) x)
+    (is_finished k cs (replaced_with stage maps place q) ∙ sym (ap (replaced_with stage maps (Left ∷ place)) (e ∙ is_finished k cs q))) (h (replaced_with stage maps place q) k)
 
-pub left-global : (stage : StageId) (maps : ℕ) (place : spec.Place) (x : Plan) (k : Option ℕ) (s : ℕ) (q : Plan) → x ≡ GlobalLimit k s q → replaced_with stage maps (Left ∷ place) x ≡ GlobalLimit k s (replaced_with stage maps place q)
-left-global stage maps place x k s q e = ap (replaced_with stage maps (Left ∷ place)) (e ∙ is_cut_globally k s q) ∙ sym (is_cut_globally k s (replaced_with stage maps place q))
+pub left-sort : (stage : StageId) (maps : ℕ) (place : spec.Place) (child r : Result Plan Memory) (x : Plan) (ks : List SortKey) (q : Plan) → x ≡ Sort ks q →
+    ((p : Plan) → IfOk child (λ d. d ≡ p) → IfOk r (λ z. z ≡ Sort ks p)) → IfOk child (λ d. d ≡ replaced_with stage maps place q) → IfOk r (λ z. z ≡ replaced_with stage maps (Left ∷ place) x)
+left-sort stage maps place child r x ks q e h k =
+    is_so r (Sort ks (replaced_with stage maps place q)) (replaced_with stage maps (Left ∷ place) x)
+    (is_ordered ks (replaced_with stage maps place q) ∙ sym (ap (replaced_with stage maps (Left ∷ place)) (e ∙ is_ordered ks q))) (h (replaced_with stage maps place q) k)
 
-pub left-join : (stage : StageId) (maps : ℕ) (place : spec.Place) (x : Plan) (y : JoinWay) (k : JoinKind) (ks : JoinKeys) (v w : ℕ) (l r : Plan) → x ≡ Join y k ks v w l r → replaced_with stage maps (Left ∷ place) x ≡ Join y k ks v w (replaced_with stage maps place l) r
-left-join stage maps place x y k ks v w l r e = ap (replaced_with stage maps (Left ∷ place)) (e ∙ is_matched y k ks v w l r) ∙ sym (is_matched y k ks v w (replaced_with stage maps place l) r)
+pub left-local : (stage : StageId) (maps : ℕ) (place : spec.Place) (child r : Result Plan Memory) (x : Plan) (k : ℕ) (q : Plan) → x ≡ LocalLimit k q →
+    ((p : Plan) → IfOk child (λ d. d ≡ p) → IfOk r (λ z. z ≡ LocalLimit k p)) → IfOk child (λ d. d ≡ replaced_with stage maps place q) → IfOk r (λ z. z ≡ replaced_with stage maps (Left ∷ place) x)
+left-local stage maps place child r x k q e h k =
+    is_so r (LocalLimit k (replaced_with stage maps place q)) (replaced_with stage maps (Left ∷ place) x)
+    (is_cut_locally k (replaced_with stage maps place q) ∙ sym (ap (replaced_with stage maps (Left ∷ place)) (e ∙ is_cut_locally k q))) (h (replaced_with stage maps place q) k)
 
-pub left-union : (stage : StageId) (maps : ℕ) (place : spec.Place) (x l r : Plan) → x ≡ Union l r → replaced_with stage maps (Left ∷ place) x ≡ Union (replaced_with stage maps place l) r
-left-union stage maps place x l r e = ap (replaced_with stage maps (Left ∷ place)) (e ∙ is_both_of l r) ∙ sym (is_both_of (replaced_with stage maps place l) r)
+pub left-global : (stage : StageId) (maps : ℕ) (place : spec.Place) (child r : Result Plan Memory) (x : Plan) (k : Option ℕ) (s : ℕ) (q : Plan) → x ≡ GlobalLimit k s q →
+    ((p : Plan) → IfOk child (λ d. d ≡ p) → IfOk r (λ z. z ≡ GlobalLimit k s p)) → IfOk child (λ d. d ≡ replaced_with stage maps place q) → IfOk r (λ z. z ≡ replaced_with stage maps (Left ∷ place) x)
+left-global stage maps place child r x k s q e h k =
+    is_so r (GlobalLimit k s (replaced_with stage maps place q)) (replaced_with stage maps (Left ∷ place) x)
+    (is_cut_globally k s (replaced_with stage maps place q) ∙ sym (ap (replaced_with stage maps (Left ∷ place)) (e ∙ is_cut_globally k s q))) (h (replaced_with stage maps place q) k)
+
+pub left-join : (stage : StageId) (maps : ℕ) (place : spec.Place) (shape : Result Joining Memory) (first second result : Result Plan Memory) (x : Plan) (y : JoinWay) (k : JoinKind) (ks : JoinKeys) (v w : ℕ) (l r : Plan) →
+    x ≡ Join y k ks v w l r →
+    ((j : Joining) (a b : Plan) → IfOk shape (λ c. c ≡ j) → IfOk first (λ c. c ≡ a) → IfOk second (λ c. c ≡ b) → IfOk result (λ q. q ≡ join_of j a b)) →
+    IfOk shape (λ j. j ≡ record { way = y; kind = k; keys = ks; left_width = v; right_width = w }) → IfOk first (λ c. c ≡ replaced_with stage maps place l) → IfOk second (λ c. c ≡ r) →
+    IfOk result (λ z. z ≡ replaced_with stage maps (Left ∷ place) x)
+left-join stage maps place shape first second result x y k ks v w l r e h g f s =
+    is_so result (Join y k ks v w (replaced_with stage maps place l) r) (replaced_with stage maps (Left ∷ place) x)
+    (is_matched y k ks v w (replaced_with stage maps place l) r ∙ sym (ap (replaced_with stage maps (Left ∷ place)) (e ∙ is_matched y k ks v w l r)))
+    (h (record { way = y; kind = k; keys = ks; left_width = v; right_width = w }) (replaced_with stage maps place l) r g f s)
+
+pub left-union : (stage : StageId) (maps : ℕ) (place : spec.Place) (first second result : Result Plan Memory) (x l r : Plan) → x ≡ Union l r →
+    ((a b : Plan) → IfOk first (λ c. c ≡ a) → IfOk second (λ c. c ≡ b) → IfOk result (λ q. q ≡ Union a b)) → IfOk first (λ c. c ≡ replaced_with stage maps place l) → IfOk second (λ c. c ≡ r) →
+    IfOk result (λ z. z ≡ replaced_with stage maps (Left ∷ place) x)
+left-union stage maps place first second result x l r e h f s =
+    is_so result (Union (replaced_with stage maps place l) r) (replaced_with stage maps (Left ∷ place) x)
+    (is_both_of (replaced_with stage maps place l) r ∙ sym (ap (replaced_with stage maps (Left ∷ place)) (e ∙ is_both_of l r))) (h (replaced_with stage maps place l) r f s)
+
+pub right-join : (stage : StageId) (maps : ℕ) (place : spec.Place) (shape : Result Joining Memory) (first second result : Result Plan Memory) (x : Plan) (y : JoinWay) (k : JoinKind) (ks : JoinKeys) (v w : ℕ) (l r : Plan) →
+    x ≡ Join y k ks v w l r →
+    ((j : Joining) (a b : Plan) → IfOk shape (λ c. c ≡ j) → IfOk first (λ c. c ≡ a) → IfOk second (λ c. c ≡ b) → IfOk result (λ q. q ≡ join_of j a b)) →
+    IfOk shape (λ j. j ≡ record { way = y; kind = k; keys = ks; left_width = v; right_width = w }) → IfOk first (λ c. c ≡ l) → IfOk second (λ c. c ≡ replaced_with stage maps place r) →
+    IfOk result (λ z. z ≡ replaced_with stage maps (Right ∷ place) x)
+right-join stage maps place shape first second result x y k ks v w l r e h g f s =
+    is_so result (Join y k ks v w l (replaced_with stage maps place r)) (replaced_with stage maps (Right ∷ place) x)
+    (is_matched y k ks v w l (replaced_with stage maps place r) ∙ sym (ap (replaced_with stage maps (Right ∷ place)) (e ∙ is_matched y k ks v w l r)))
+    (h (record { way = y; kind = k; keys = ks; left_width = v; right_width = w }) l (replaced_with stage maps place r) g f s)
+
+pub right-union : (stage : StageId) (maps : ℕ) (place : spec.Place) (first second result : Result Plan Memory) (x l r : Plan) → x ≡ Union l r →
+    ((a b : Plan) → IfOk first (λ c. c ≡ a) → IfOk second (λ c. c ≡ b) → IfOk result (λ q. q ≡ Union a b)) → IfOk first (λ c. c ≡ l) → IfOk second (λ c. c ≡ replaced_with stage maps place r) →
+    IfOk result (λ z. z ≡ replaced_with stage maps (Right ∷ place) x)
+right-union stage maps place first second result x l r e h f s =
+    is_so result (Union l (replaced_with stage maps place r)) (replaced_with stage maps (Right ∷ place) x)
+    (is_both_of l (replaced_with stage maps place r) ∙ sym (ap (replaced_with stage maps (Right ∷ place)) (e ∙ is_both_of l r))) (h l (replaced_with stage maps place r) f s)
 
 pub ruleset left_steps = (left-filter, left-project, left-exchange, left-partial, left-last, left-sort, left-local, left-global, left-join, left-union)
-
-pub right-join : (stage : StageId) (maps : ℕ) (place : spec.Place) (x : Plan) (y : JoinWay) (k : JoinKind) (ks : JoinKeys) (v w : ℕ) (l r : Plan) → x ≡ Join y k ks v w l r → replaced_with stage maps (Right ∷ place) x ≡ Join y k ks v w l (replaced_with stage maps place r)
-right-join stage maps place x y k ks v w l r e = ap (replaced_with stage maps (Right ∷ place)) (e ∙ is_matched y k ks v w l r) ∙ sym (is_matched y k ks v w l (replaced_with stage maps place r))
-
-pub right-union : (stage : StageId) (maps : ℕ) (place : spec.Place) (x l r : Plan) → x ≡ Union l r → replaced_with stage maps (Right ∷ place) x ≡ Union l (replaced_with stage maps place r)
-right-union stage maps place x l r e = ap (replaced_with stage maps (Right ∷ place)) (e ∙ is_both_of l r) ∙ sym (is_both_of l (replaced_with stage maps place r))
 
 pub right-filter : (stage : StageId) (maps : ℕ) (place : spec.Place) (x : Plan) (c : Expr) (q : Plan) → x ≡ Filter c q → x ≡ replaced_with stage maps (Right ∷ place) x
 right-filter stage maps place x c q e = (e ∙ is_kept c q) ∙ sym (ap (replaced_with stage maps (Right ∷ place)) (e ∙ is_kept c q))
@@ -186,10 +252,26 @@ right-global stage maps place x k s q e = (e ∙ is_cut_globally k s q) ∙ sym 
 
 pub ruleset right_steps = (right-join, right-union, right-filter, right-project, right-exchange, right-partial, right-last, right-sort, right-local, right-global)
 
-pub here-exchange : (stage : StageId) (maps : ℕ) (x : Plan) (t : Target) (q : Plan) → x ≡ Exchange t q → replaced_with stage maps [] x ≡ read_with stage maps t q
-here-exchange stage maps x t q e = ap (replaced_with stage maps []) (e ∙ is_moved t q)
+pub here-exchange : (stage : StageId) (maps : ℕ) (r : Result Plan Memory) (x : Plan) (t : Target) (q : Plan) → x ≡ Exchange t q →
+    IfOk r (λ z. z ≡ read_with stage maps t q) → IfOk r (λ z. z ≡ replaced_with stage maps [] x)
+here-exchange stage maps r x t q e h = is_so r (read_with stage maps t q) (replaced_with stage maps [] x) (sym (ap (replaced_with stage maps []) (e ∙ is_moved t q))) h
 
 pub ruleset here_steps = (here-exchange)
+
+-- a range of which a sample was made names it
+pub read-sampled : (stage : StageId) (maps n : ℕ) (r : Result Plan Memory) (t : Target) (ks : List SortKey) (s : Option StageId) (q : Plan) → t ≡ Range ks n s → s ≡ None →
+    IfOk r (λ z. z ≡ Exchange (Range ks n (Some stage)) q) → IfOk r (λ z. z ≡ read_with stage maps t q)
+read-sampled stage maps n r t ks s q e f h =
+    is_so r (Exchange (Range ks n (Some stage)) q) (read_with stage maps t q)
+    (is_moved (Range ks n (Some stage)) q ∙ sym (ap (λ (u : Target). read_with stage maps u q) (e ∙ ap (Range ks n) f))) h
+
+pub ruleset read_steps = (read-sampled)
+
+-- the making of an exchange that stands at a place
+pub making_is : (place p : spec.Place) (t : Target) (q body : Plan) (kind : StageKind) → p ≡ place → kind ≡ (stage_of t q).kind → body ≡ q →
+    record { place = p; kind = kind; body = body } ≡ standing place (record { place = []; stage = stage_of t q })
+making_is place p t q body kind e f g =
+    λ i. record { place = (e ∙ sym (append-nil place)) i; kind = f i; body = (g ∙ sym (body_of t q)) i }
 
 -- the makings of the exchanges, and then the result
 pub all_found : (mid found : List Making) (xs ys : List spec.Making) → mid ≡ all_standing [] xs → found ≡ mid ++ all_standing [] ys → found ≡ all_standing [] (xs ++ ys)
@@ -205,4 +287,6 @@ from_more maps a (suc k) =
 pub one_more : (maps r : ℕ) (old new : List Rect) → old ≡ plain_rects maps r → new ≡ old ++ plain_rect maps r ∷ [] → new ≡ plain_rects maps (r + 1)
 one_more maps r old new h e =
     let next : r + 1 ≡ suc r = omega arith in
-    e ∙ (ap (λ (rs : List Rect). rs ++ plain_rect maps r ∷ []) h ∙ (sym (from_more maps 0 r) ∙ ap (λ (n : ℕ). map (plain_rect maps) (range_with_len 0 n)) (sym next)))
+    let here : r ≡ 0 + r = omega arith in
+    e ∙ (ap (λ (rs : List Rect). rs ++ plain_rect maps r ∷ []) h ∙ (ap (λ (k : ℕ). plain_rects maps r ++ plain_rect maps k ∷ []) here ∙
+    (sym (from_more maps 0 r) ∙ ap (λ (n : ℕ). map (plain_rect maps) (range_with_len 0 n)) (sym next))))

@@ -3,7 +3,7 @@
 ghost use Rattle.std.specs.Prelude.{◌≡◌, ◌++◌, ◌∷◌, [], IfOk, OnOk};
 ghost use Rattle.aqe_making.specs.Ready as spec;
 ghost use Rattle.aqe_making.specs.Makings.{makings, made_here, stage_of};
-ghost use Rattle.aqe_replan.specs.Seen.{listed, standing, all_standing};
+ghost use Rattle.aqe_replan.specs.Seen.{listed, standing, all_standing, both_standing};
 
 use crate::{Making, Makings, Sides};
 use aqe_base::{Listing, Memory, Side, StageId, StageList};
@@ -91,7 +91,7 @@ fn shuffle(alloc: Global, to: &Target) -> Result<StageKind, Memory>
 }
 
 /// The making of an exchange that stands at a place.
-#[tactic(auto, using(aqe_making::proofs::Standing::body_of))]
+#[tactic(auto, using(crate::proofs::Steps::making_is))]
 fn making_at(alloc: Global, to: &Target, child: &Plan, place: &[Side]) -> Result<Making, Memory>
     ensures { IfOk result (λ m. m ≡ standing place.now (record { place = []; stage = stage_of to.now child.now })) }
 {
@@ -161,14 +161,28 @@ pub(crate) fn push_makings(
             push_here(found, alloc, to, child.get(), place, whole)
         }
         Plan::Join { left, right, .. } => {
-            push_below(found, alloc, left.get(), place, Side::Left, whole)?;
-            push_below(found, alloc, right.get(), place, Side::Right, whole)
+            push_both(found, alloc, left.get(), right.get(), place, whole)
         }
         Plan::Union { left, right } => {
-            push_below(found, alloc, left.get(), place, Side::Left, whole)?;
-            push_below(found, alloc, right.get(), place, Side::Right, whole)
+            push_both(found, alloc, left.get(), right.get(), place, whole)
         }
     }
+}
+
+/// Appends the makings of the two plans below a node that stands at a place.
+#[cycle(push_makings)]
+fn push_both(
+    found: &mut Makings,
+    alloc: Global,
+    left: &Plan,
+    right: &Plan,
+    place: &[Side],
+    whole: &StageList,
+) -> Result<(), Memory>
+    ensures { OnOk result (found.new ≡ found.old ++ both_standing (listed whole.now) place.now left.now right.now) }
+{
+    push_below(found, alloc, left, place, Side::Left, whole)?;
+    push_below(found, alloc, right, place, Side::Right, whole)
 }
 
 /// Appends the makings of a plan that stands at a side of the node at a place.

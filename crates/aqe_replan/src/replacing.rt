@@ -6,11 +6,12 @@ ghost use Rattle.aqe_rects.specs.Rectangles as rects;
 ghost use Rattle.aqe_physical.specs.Forms.{join_of};
 ghost use Rattle.aqe_replan.specs.Reading.{read_with, replaced_with};
 
-use aqe_base::{Listing, Memory, Rect, Rects, Side, StageId};
+use aqe_base::{JoinKind, Listing, Memory, Rect, Rects, Side, StageId};
 use aqe_boxes::{all_three, both};
 use aqe_expr::Expr;
 use aqe_logical::{AggCalls, Exprs, SortKeys, copy_calls, copy_expr, copy_exprs, copy_sort_keys};
-use aqe_physical::{Joining, Plan, Target, copy};
+use aqe_join_rows::JoinKeys;
+use aqe_physical::{JoinWay, Joining, Plan, Target, copy};
 use std::alloc::Global;
 
 /// A stage that was just made, and the number of its maps.
@@ -51,6 +52,7 @@ fn here(alloc: Global, plan: &Plan, newest: Newest) -> Result<Plan, Memory>
 }
 
 /// What reads a stage in the place of the exchange that it was made of.
+#[tactic(auto, using(crate::proofs::Steps::read_steps))]
 fn read(alloc: Global, to: &Target, child: &Plan, newest: Newest) -> Result<Plan, Memory>
     ensures { IfOk result (λ p. p ≡ read_with newest.stage newest.maps to.now child.now) }
 {
@@ -146,15 +148,9 @@ fn on_left(alloc: Global, plan: &Plan, place: &[Side], newest: Newest) -> Result
             left,
             right,
         } => {
-            let joining = Joining {
-                way: *way,
-                kind: *kind,
-                keys: keys.copy(alloc)?,
-                left_width: *left_width,
-                right_width: *right_width,
-            };
+            let shape = joining(alloc, *way, *kind, keys, *left_width, *right_width);
             let left = replaced(alloc, left.get(), place, newest);
-            join(alloc, joining, left, copy(alloc, right.get()))
+            join(alloc, shape, left, copy(alloc, right.get()))
         }
         Plan::PartialAgg { keys, calls, child } => {
             partial(alloc, keys, calls, replaced(alloc, child.get(), place, newest))
@@ -194,15 +190,9 @@ fn on_right(alloc: Global, plan: &Plan, place: &[Side], newest: Newest) -> Resul
             left,
             right,
         } => {
-            let joining = Joining {
-                way: *way,
-                kind: *kind,
-                keys: keys.copy(alloc)?,
-                left_width: *left_width,
-                right_width: *right_width,
-            };
+            let shape = joining(alloc, *way, *kind, keys, *left_width, *right_width);
             let right = replaced(alloc, right.get(), place, newest);
-            join(alloc, joining, copy(alloc, left.get()), right)
+            join(alloc, shape, copy(alloc, left.get()), right)
         }
         Plan::Union { left, right } => {
             let right = replaced(alloc, right.get(), place, newest);
@@ -250,16 +240,37 @@ fn exchange(alloc: Global, to: &Target, child: Result<Plan, Memory>) -> Result<P
     Plan::exchange(alloc, to, child)
 }
 
-#[tactic(auto, using(crate::proofs::Steps::it_is))]
+/// What a join is besides its sides, copied.
+fn joining(
+    alloc: Global,
+    way: JoinWay,
+    kind: JoinKind,
+    keys: &JoinKeys,
+    left_width: u32,
+    right_width: u32,
+) -> Result<Joining, Memory>
+    ensures { IfOk result (λ j. j ≡ record { way = way; kind = kind; keys = keys.now; left_width = left_width; right_width = right_width }) }
+{
+    let keys = keys.copy(alloc)?;
+    Ok(Joining {
+        way,
+        kind,
+        keys,
+        left_width,
+        right_width,
+    })
+}
+
+#[tactic(auto, using(crate::proofs::Steps::it_is, crate::proofs::Steps::joining_is))]
 fn join(
     alloc: Global,
-    joining: Joining,
+    shape: Result<Joining, Memory>,
     left: Result<Plan, Memory>,
     right: Result<Plan, Memory>,
 ) -> Result<Plan, Memory>
-    ensures { (l r : Plan) → IfOk left (λ c. c ≡ l) → IfOk right (λ c. c ≡ r) → IfOk result (λ q. q ≡ join_of joining l r) }
+    ensures { (j : Joining) (l r : Plan) → IfOk shape (λ c. c ≡ j) → IfOk left (λ c. c ≡ l) → IfOk right (λ c. c ≡ r) → IfOk result (λ q. q ≡ join_of j l r) }
 {
-    let (joining, left, right) = all_three(Ok(joining), left, right)?;
+    let (joining, left, right) = all_three(shape, left, right)?;
     Plan::join(alloc, joining, left, right)
 }
 

@@ -1,8 +1,12 @@
 //! The current plan of a query, and how stages are made of it.
 
-ghost use Rattle.std.specs.Prelude.{◌≡◌, ◌++◌, [], false, IfOk, OnOk, OnErr};
+ghost use Rattle.std.specs.Prelude.{◌≡◌, ◌++◌, [], false, length, IfOk, OnOk, OnErr};
+ghost use Rattle.aqe_settings.specs.Values.{values_of};
 ghost use Rattle.aqe_physical.specs.Counts.{PartsFit};
+ghost use Rattle.aqe_fitting.specs.Fits.{Fits};
+ghost use Rattle.aqe_planner.specs.Built.{IsBuilt, Reaches};
 ghost use Rattle.aqe_replan.specs.Seen.{all_standing, seen};
+ghost use Rattle.aqe_replan.specs.Versions as spec;
 ghost use Rattle.aqe_replan.specs.Versions.{ready_of, results, CanBeMade, IsAfter, taken, noted, plan_after, result_after};
 
 use crate::ready::{is_ready, push_makings};
@@ -10,7 +14,9 @@ use crate::replacing::{Newest, replaced};
 use crate::{Making, Makings};
 use aqe_base::{Listing, Memory, StageId, StageList};
 use aqe_logical::Logical;
-use aqe_physical::{Plan, StageKind, copy, parts};
+use aqe_physical::{Estimates, Plan, StageKind, copy, parts};
+use aqe_planner::first_plan;
+use aqe_settings::Settings;
 use std::alloc::Global;
 
 /// What a query is carried out by at a position of its run.
@@ -23,18 +29,26 @@ pub struct Versions {
 }
 
 impl Versions {
-    /// The versions of a query whose plan is given: no stage was made yet.
-    pub(crate) fn of(alloc: Global, logical: Logical, plan: Plan) -> Versions
-        ensures logical { result.logical ≡ logical }
-        ensures plan { result.plan ≡ plan }
-        ensures begun { result.has_result ≡ false }
+    /// Plans a query of which no stage was made.
+    pub fn first(
+        alloc: Global,
+        logical: Logical,
+        estimates: &Estimates,
+        settings: &Settings,
+    ) -> Result<Versions, Memory>
+        requires built { IsBuilt logical }
+        requires estimates { Reaches (length estimates.now) logical }
+        ensures fits { IfOk result (λ v. Fits v.plan logical estimates.now [] (values_of settings.now)) }
+        ensures logical { IfOk result (λ v. v.logical ≡ logical) }
+        ensures begun { IfOk result (λ v. v.has_result ≡ false) }
     {
-        Versions {
+        let plan = first_plan(alloc, &logical, estimates, settings)?;
+        Ok(Versions {
             alloc,
             logical,
             plan,
             has_result: false,
-        }
+        })
     }
 
     /// The current plan.
@@ -85,16 +99,30 @@ impl Versions {
     }
 
     /// Makes the stage with its number: the exchange is replaced by its plain read, and a range whose sample was made names it.
-    #[tactic(auto, using(crate::proofs::Replaced::made_steps))]
     pub fn made(&mut self, making: Making, stage: StageId) -> Result<(), Memory>
         requires stands { CanBeMade self.old.plan (seen making) }
-        requires fits { PartsFit making.body }
+        requires parts { PartsFit self.old.plan }
         ensures plan { OnOk result (self.new.plan ≡ plan_after stage (seen making) self.old.plan) }
         ensures result { OnOk result (self.new.has_result ≡ result_after (seen making) self.old.has_result) }
         ensures logical { self.new.logical ≡ self.old.logical }
+        ensures parts { PartsFit self.new.plan }
         ensures as_before { OnErr result (self.new ≡ self.old) }
     {
-        match self.after(&making, stage) {
+        self.make(&making, stage)
+    }
+
+    /// Makes a stage that the caller keeps.
+    #[tactic(auto, using(crate::proofs::Replaced::made_steps))]
+    fn make(&mut self, making: &Making, stage: StageId) -> Result<(), Memory>
+        requires stands { CanBeMade self.old.plan (seen making.now) }
+        requires parts { PartsFit self.old.plan }
+        ensures plan { OnOk result (self.new.plan ≡ plan_after stage (seen making.now) self.old.plan) }
+        ensures result { OnOk result (self.new.has_result ≡ result_after (seen making.now) self.old.has_result) }
+        ensures logical { self.new.logical ≡ self.old.logical }
+        ensures parts { PartsFit self.new.plan }
+        ensures as_before { OnErr result (self.new ≡ self.old) }
+    {
+        match self.after(making, stage) {
             Ok(next) => {
                 self.take(next);
                 Ok(())
@@ -107,19 +135,18 @@ impl Versions {
     #[tactic(auto, using(crate::proofs::Replaced::after_steps))]
     fn after(&self, making: &Making, stage: StageId) -> Result<Option<Plan>, Memory>
         requires stands { CanBeMade self.now.plan (seen making.now) }
-        requires fits { PartsFit making.now.body }
+        requires parts { PartsFit self.now.plan }
         ensures { IfOk result (λ next. IsAfter stage (seen making.now) self.now.plan next) }
     {
-        match &making.kind {
-            StageKind::Result => Ok(None),
-            StageKind::Shuffle(_) | StageKind::Broadcast | StageKind::Sample(_) => {
-                let newest = Newest {
-                    stage,
-                    maps: parts(&making.body),
-                };
-                let plan = replaced(self.alloc, &self.plan, making.place.slice(), newest)?;
-                Ok(Some(plan))
-            }
+        if is_result(&making.kind) {
+            Ok(None)
+        } else {
+            let newest = Newest {
+                stage,
+                maps: parts(&making.body),
+            };
+            let plan = replaced(self.alloc, &self.plan, making.place.slice(), newest)?;
+            Ok(Some(plan))
         }
     }
 
@@ -133,5 +160,15 @@ impl Versions {
             Some(plan) => self.plan = plan,
             None => self.has_result = true,
         }
+    }
+}
+
+/// Whether a stage is a result.
+fn is_result(kind: &StageKind) -> bool
+    ensures { result ≡ spec.is_result kind.now }
+{
+    match kind {
+        StageKind::Result => true,
+        StageKind::Shuffle(_) | StageKind::Broadcast | StageKind::Sample(_) => false,
     }
 }
