@@ -1,5 +1,5 @@
 -- What can be made of the versions of a query, one stage after the other.
-use Rattle.std.proofs.Common.{◌≡◌, ℕ, Bool, true, false, List, [], ◌∷◌, ◌++◌, Some, refl, ap, sym, ◌∙◌, subst, inl, inr}
+use Rattle.std.proofs.Common.{◌≡◌, ℕ, Bool, true, false, List, [], ◌∷◌, ◌++◌, Some, None, refl, ap, sym, ◌∙◌, subst, inl, inr}
 use Rattle.std.specs.Prelude.{All, cond, not, ◌&&◌, ◌⊎◌}
 use Rattle.std.proofs.lemmas.List.Elements.{All-nil, All-cons, All-head, All-tail, All-append}
 use Rattle.aqe_base.specs.declared.stage_id.StageId.{StageId}
@@ -36,9 +36,9 @@ can_be_made stages versions =
     (at_most_one (CanBeMade versions.plan) (is_ready (listed stages) versions.plan && not versions.has_result) (result_of versions.plan) (λ e. inl refl))
 
 pub made_of_the_plan : StagesAreMadeOfThePlan
-made_of_the_plan number making plan (inl so) no = absurd (let bad : true ≡ false = sym so ∙ no in cc bad)
-made_of_the_plan number making plan (inr stands) no =
-    subst (λ (b : Bool). Made number plan making.stage (cond b plan (after number making.place plan))) (sym no)
+made_of_the_plan number making plan (inl so) other = absurd (let bad : true ≡ false = sym so ∙ other in cc bad)
+made_of_the_plan number making plan (inr stands) other =
+    subst (λ (b : Bool). Made number plan making.stage (cond b plan (after number making.place plan))) (sym other)
     (made_at number making.place plan making.stage stands)
 
 -- the stage of an exchange is no result
@@ -89,8 +89,8 @@ behind whole number plan has_result making others (m ∷ ms) l w e =
     let first : m ≡ making = same_head m making ms others (sym step.0 ∙ e) in
     let rest : ms ≡ others = same_tail m making ms others (sym step.0 ∙ e) in
     let stands = All-head (Stands plan) m ms (subst (All (Stands plan)) l (standing whole plan)) in
-    let no : is_result making.stage.kind ≡ false = ap (λ (n : Making). is_result n.stage.kind) (sym first) ∙ is_no_result m.place plan m.stage stands in
-    ap (λ (b : Bool). all_makings whole (cond b true has_result) (cond b plan (after number making.place plan))) no ∙
+    let other : is_result making.stage.kind ≡ false = ap (λ (n : Making). is_result n.stage.kind) (sym first) ∙ is_no_result m.place plan m.stage stands in
+    ap (λ (b : Bool). all_makings whole (cond b true has_result) (cond b plan (after number making.place plan))) other ∙
     (ap (λ (n : Making). all_makings whole has_result (after number n.place plan)) (sym first) ∙ (step.1 ∙ rest))
 
 pub stay_ready : OthersStayReady

@@ -1,5 +1,5 @@
 -- The parts of a first plan can be numbered: it has no more than its files and its exchanges say.
-use Rattle.std.proofs.Common.{◌≡◌, ℕ, ◌<◌, ◌^◌, ◌×◌, List, [], ◌∷◌, zero, suc, true, false, refl, sym, ap, ◌∙◌, subst, arith}
+use Rattle.std.proofs.Common.{◌≡◌, ℕ, ◌<◌, ◌^◌, List, [], ◌∷◌, zero, suc, true, false, refl, sym, ap, ◌∙◌, subst, arith}
 use Rattle.std.specs.Prelude.{All, max, length, slice_index_or}
 use Rattle.std.proofs.lemmas.List.Elements.{All-head, All-tail}
 use Rattle.aqe_base.specs.declared.join_kind.JoinKind.{JoinKind}
@@ -32,7 +32,7 @@ one = omega arith
 
 most : (count : ℕ) → Few count → Few (max 1 count)
 most zero h = one
-most (suc count) h = h
+most (suc count) h = let e : suc count ≡ max 1 (suc count) = omega arith in subst Few e h
 
 groups_few : (n count : ℕ) → Few n → Few (target_count (groups_target n count))
 groups_few n zero h = one

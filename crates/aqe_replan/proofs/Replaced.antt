@@ -47,14 +47,14 @@ same_after number place plan stage e = absurd (no_stage stage e)
 -- an exchange that was made
 pub exchange_made : (number : StageId) (making : code.Making) (place : Place) (plan new : Plan) (maps : ℕ) → CanBeMade plan (seen making) → is_result making.kind ≡ false →
     maps ≡ part_count making.body → place ≡ making.place → new ≡ replaced_with number maps place plan → new ≡ after number making.place plan
-exchange_made number making place plan new maps (inl so) no m p e = absurd (let bad : true ≡ false = sym so ∙ no in cc bad)
-exchange_made number making place plan new maps (inr stands) no m p e =
+exchange_made number making place plan new maps (inl so) other m p e = absurd (let bad : true ≡ false = sym so ∙ other in cc bad)
+exchange_made number making place plan new maps (inr stands) other m p e =
     e ∙ ((λ i. replaced_with number (m i) (p i) plan) ∙ same_after number making.place plan (record { kind = making.kind; body = making.body }) stands)
 
 -- the parts of the body of an exchange that stands in the plan can be numbered
 pub body_fits_here : (making : code.Making) (plan : Plan) → CanBeMade plan (seen making) → is_result making.kind ≡ false → PartsFit plan → PartsFit making.body
-body_fits_here making plan (inl so) no h = absurd (let bad : true ≡ false = sym so ∙ no in cc bad)
-body_fits_here making plan (inr stands) no h = body_fits making.place plan (record { kind = making.kind; body = making.body }) stands h
+body_fits_here making plan (inl so) other h = absurd (let bad : true ≡ false = sym so ∙ other in cc bad)
+body_fits_here making plan (inr stands) other h = body_fits making.place plan (record { kind = making.kind; body = making.body }) stands h
 
 pub ruleset after_steps = (exchange_made, body_fits_here)
 

@@ -168,9 +168,9 @@ left-partial stage maps place child r x ks cs q e h k =
 
 pub left-last : (stage : StageId) (maps : ℕ) (place : spec.Place) (child r : Result Plan Memory) (x : Plan) (k : ℕ) (cs : List AggCall) (q : Plan) → x ≡ FinalAgg k cs q →
     ((p : Plan) → IfOk child (λ d. d ≡ p) → IfOk r (λ z. z ≡ FinalAgg k cs p)) → IfOk child (λ d. d ≡ replaced_with stage maps place q) → IfOk r (λ z. z ≡ replaced_with stage maps (Left ∷ place) x)
-left-last stage maps place child r x k cs q e h k =
+left-last stage maps place child r x k cs q e h g =
     is_so r (FinalAgg k cs (replaced_with stage maps place q)) (replaced_with stage maps (Left ∷ place) x)
-    (is_finished k cs (replaced_with stage maps place q) ∙ sym (ap (replaced_with stage maps (Left ∷ place)) (e ∙ is_finished k cs q))) (h (replaced_with stage maps place q) k)
+    (is_finished k cs (replaced_with stage maps place q) ∙ sym (ap (replaced_with stage maps (Left ∷ place)) (e ∙ is_finished k cs q))) (h (replaced_with stage maps place q) g)
 
 pub left-sort : (stage : StageId) (maps : ℕ) (place : spec.Place) (child r : Result Plan Memory) (x : Plan) (ks : List SortKey) (q : Plan) → x ≡ Sort ks q →
     ((p : Plan) → IfOk child (λ d. d ≡ p) → IfOk r (λ z. z ≡ Sort ks p)) → IfOk child (λ d. d ≡ replaced_with stage maps place q) → IfOk r (λ z. z ≡ replaced_with stage maps (Left ∷ place) x)
@@ -180,15 +180,15 @@ left-sort stage maps place child r x ks q e h k =
 
 pub left-local : (stage : StageId) (maps : ℕ) (place : spec.Place) (child r : Result Plan Memory) (x : Plan) (k : ℕ) (q : Plan) → x ≡ LocalLimit k q →
     ((p : Plan) → IfOk child (λ d. d ≡ p) → IfOk r (λ z. z ≡ LocalLimit k p)) → IfOk child (λ d. d ≡ replaced_with stage maps place q) → IfOk r (λ z. z ≡ replaced_with stage maps (Left ∷ place) x)
-left-local stage maps place child r x k q e h k =
+left-local stage maps place child r x k q e h g =
     is_so r (LocalLimit k (replaced_with stage maps place q)) (replaced_with stage maps (Left ∷ place) x)
-    (is_cut_locally k (replaced_with stage maps place q) ∙ sym (ap (replaced_with stage maps (Left ∷ place)) (e ∙ is_cut_locally k q))) (h (replaced_with stage maps place q) k)
+    (is_cut_locally k (replaced_with stage maps place q) ∙ sym (ap (replaced_with stage maps (Left ∷ place)) (e ∙ is_cut_locally k q))) (h (replaced_with stage maps place q) g)
 
 pub left-global : (stage : StageId) (maps : ℕ) (place : spec.Place) (child r : Result Plan Memory) (x : Plan) (k : Option ℕ) (s : ℕ) (q : Plan) → x ≡ GlobalLimit k s q →
     ((p : Plan) → IfOk child (λ d. d ≡ p) → IfOk r (λ z. z ≡ GlobalLimit k s p)) → IfOk child (λ d. d ≡ replaced_with stage maps place q) → IfOk r (λ z. z ≡ replaced_with stage maps (Left ∷ place) x)
-left-global stage maps place child r x k s q e h k =
+left-global stage maps place child r x k s q e h g =
     is_so r (GlobalLimit k s (replaced_with stage maps place q)) (replaced_with stage maps (Left ∷ place) x)
-    (is_cut_globally k s (replaced_with stage maps place q) ∙ sym (ap (replaced_with stage maps (Left ∷ place)) (e ∙ is_cut_globally k s q))) (h (replaced_with stage maps place q) k)
+    (is_cut_globally k s (replaced_with stage maps place q) ∙ sym (ap (replaced_with stage maps (Left ∷ place)) (e ∙ is_cut_globally k s q))) (h (replaced_with stage maps place q) g)
 
 pub left-join : (stage : StageId) (maps : ℕ) (place : spec.Place) (shape : Result Joining Memory) (first second result : Result Plan Memory) (x : Plan) (y : JoinWay) (k : JoinKind) (ks : JoinKeys) (v w : ℕ) (l r : Plan) →
     x ≡ Join y k ks v w l r →
