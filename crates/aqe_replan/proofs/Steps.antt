@@ -1,6 +1,6 @@
 -- What the code's walks need of each form of a plan, as the code makes it.
 use Rattle.std.proofs.Common.{◌≡◌, ℕ, Bool, true, false, ◌+◌, ◌++◌, List, [], ◌∷◌, map, Option, Some, None, zero, suc, arith, ap, refl, sym, ◌∙◌, subst, append_assoc, append-nil}
-use Rattle.std.specs.Prelude.{IfOk, Result, Ok, Err, ◌&&◌}
+use Rattle.std.specs.Prelude.{IfOk, OnOk, Result, Ok, Err, ◌&&◌}
 use Rattle.std.specs.List.{range_with_len}
 use Rattle.aqe_base.specs.declared.join_kind.JoinKind.{JoinKind}
 use Rattle.aqe_base.specs.declared.join_kind.Side.{Side}
@@ -82,42 +82,78 @@ split : (place : spec.Place) (xs ys : List spec.Making) → all_standing place (
 split place [] ys = refl
 split place (x ∷ xs) ys = ap (λ (zs : List Making). standing place x ∷ zs) (split place xs ys)
 
-pub makings-filter : (whole : ℕ → Bool) (place : spec.Place) (x : Plan) (c : Expr) (q : Plan) (old new : List Making) → x ≡ Filter c q → new ≡ old ++ all_standing (place ++ Left ∷ []) (makings whole q) → new ≡ old ++ all_standing place (makings whole x)
-makings-filter whole place x c q old new e h = h ∙ ap (λ (zs : List Making). old ++ zs) (lifted place Left (makings whole q) ∙ sym (ap (λ (p : Plan). all_standing place (makings whole p)) (e ∙ is_kept c q)))
+-- a result that is handed on, and what follows of what it says
+on_ok : {T : Type 0} (r : Result T Memory) (P Q : Type 0) → (P → Q) → OnOk r P → OnOk r Q
+on_ok (Ok x) P Q f h = f h
+on_ok (Err fault) P Q f h = h
 
-pub makings-project : (whole : ℕ → Bool) (place : spec.Place) (x : Plan) (i : List Expr) (q : Plan) (old new : List Making) → x ≡ Project i q → new ≡ old ++ all_standing (place ++ Left ∷ []) (makings whole q) → new ≡ old ++ all_standing place (makings whole x)
-makings-project whole place x i q old new e h = h ∙ ap (λ (zs : List Making). old ++ zs) (lifted place Left (makings whole q) ∙ sym (ap (λ (p : Plan). all_standing place (makings whole p)) (e ∙ is_mapped i q)))
+here-makings-filter : (whole : ℕ → Bool) (place : spec.Place) (x : Plan) (c : Expr) (q : Plan) (old new : List Making) → x ≡ Filter c q → new ≡ old ++ all_standing (place ++ Left ∷ []) (makings whole q) → new ≡ old ++ all_standing place (makings whole x)
+here-makings-filter whole place x c q old new e h = h ∙ ap (λ (zs : List Making). old ++ zs) (lifted place Left (makings whole q) ∙ sym (ap (λ (p : Plan). all_standing place (makings whole p)) (e ∙ is_kept c q)))
 
-pub makings-partial : (whole : ℕ → Bool) (place : spec.Place) (x : Plan) (ks : List Expr) (cs : List AggCall) (q : Plan) (old new : List Making) → x ≡ PartialAgg ks cs q → new ≡ old ++ all_standing (place ++ Left ∷ []) (makings whole q) → new ≡ old ++ all_standing place (makings whole x)
-makings-partial whole place x ks cs q old new e h = h ∙ ap (λ (zs : List Making). old ++ zs) (lifted place Left (makings whole q) ∙ sym (ap (λ (p : Plan). all_standing place (makings whole p)) (e ∙ is_grouped ks cs q)))
+pub makings-filter : {T : Type 0} (r : Result T Memory) (whole : ℕ → Bool) (place : spec.Place) (x : Plan) (c : Expr) (q : Plan) (old new : List Making) → x ≡ Filter c q → OnOk r (new ≡ old ++ all_standing (place ++ Left ∷ []) (makings whole q)) → OnOk r (new ≡ old ++ all_standing place (makings whole x))
+makings-filter r whole place x c q old new e0 h = on_ok r (new ≡ old ++ all_standing (place ++ Left ∷ []) (makings whole q)) (new ≡ old ++ all_standing place (makings whole x)) (here-makings-filter whole place x c q old new e0) h
 
-pub makings-last : (whole : ℕ → Bool) (place : spec.Place) (x : Plan) (k : ℕ) (cs : List AggCall) (q : Plan) (old new : List Making) → x ≡ FinalAgg k cs q → new ≡ old ++ all_standing (place ++ Left ∷ []) (makings whole q) → new ≡ old ++ all_standing place (makings whole x)
-makings-last whole place x k cs q old new e h = h ∙ ap (λ (zs : List Making). old ++ zs) (lifted place Left (makings whole q) ∙ sym (ap (λ (p : Plan). all_standing place (makings whole p)) (e ∙ is_finished k cs q)))
+here-makings-project : (whole : ℕ → Bool) (place : spec.Place) (x : Plan) (i : List Expr) (q : Plan) (old new : List Making) → x ≡ Project i q → new ≡ old ++ all_standing (place ++ Left ∷ []) (makings whole q) → new ≡ old ++ all_standing place (makings whole x)
+here-makings-project whole place x i q old new e h = h ∙ ap (λ (zs : List Making). old ++ zs) (lifted place Left (makings whole q) ∙ sym (ap (λ (p : Plan). all_standing place (makings whole p)) (e ∙ is_mapped i q)))
 
-pub makings-sort : (whole : ℕ → Bool) (place : spec.Place) (x : Plan) (ks : List SortKey) (q : Plan) (old new : List Making) → x ≡ Sort ks q → new ≡ old ++ all_standing (place ++ Left ∷ []) (makings whole q) → new ≡ old ++ all_standing place (makings whole x)
-makings-sort whole place x ks q old new e h = h ∙ ap (λ (zs : List Making). old ++ zs) (lifted place Left (makings whole q) ∙ sym (ap (λ (p : Plan). all_standing place (makings whole p)) (e ∙ is_ordered ks q)))
+pub makings-project : {T : Type 0} (r : Result T Memory) (whole : ℕ → Bool) (place : spec.Place) (x : Plan) (i : List Expr) (q : Plan) (old new : List Making) → x ≡ Project i q → OnOk r (new ≡ old ++ all_standing (place ++ Left ∷ []) (makings whole q)) → OnOk r (new ≡ old ++ all_standing place (makings whole x))
+makings-project r whole place x i q old new e0 h = on_ok r (new ≡ old ++ all_standing (place ++ Left ∷ []) (makings whole q)) (new ≡ old ++ all_standing place (makings whole x)) (here-makings-project whole place x i q old new e0) h
 
-pub makings-local : (whole : ℕ → Bool) (place : spec.Place) (x : Plan) (k : ℕ) (q : Plan) (old new : List Making) → x ≡ LocalLimit k q → new ≡ old ++ all_standing (place ++ Left ∷ []) (makings whole q) → new ≡ old ++ all_standing place (makings whole x)
-makings-local whole place x k q old new e h = h ∙ ap (λ (zs : List Making). old ++ zs) (lifted place Left (makings whole q) ∙ sym (ap (λ (p : Plan). all_standing place (makings whole p)) (e ∙ is_cut_locally k q)))
+here-makings-partial : (whole : ℕ → Bool) (place : spec.Place) (x : Plan) (ks : List Expr) (cs : List AggCall) (q : Plan) (old new : List Making) → x ≡ PartialAgg ks cs q → new ≡ old ++ all_standing (place ++ Left ∷ []) (makings whole q) → new ≡ old ++ all_standing place (makings whole x)
+here-makings-partial whole place x ks cs q old new e h = h ∙ ap (λ (zs : List Making). old ++ zs) (lifted place Left (makings whole q) ∙ sym (ap (λ (p : Plan). all_standing place (makings whole p)) (e ∙ is_grouped ks cs q)))
 
-pub makings-global : (whole : ℕ → Bool) (place : spec.Place) (x : Plan) (k : Option ℕ) (s : ℕ) (q : Plan) (old new : List Making) → x ≡ GlobalLimit k s q → new ≡ old ++ all_standing (place ++ Left ∷ []) (makings whole q) → new ≡ old ++ all_standing place (makings whole x)
-makings-global whole place x k s q old new e h = h ∙ ap (λ (zs : List Making). old ++ zs) (lifted place Left (makings whole q) ∙ sym (ap (λ (p : Plan). all_standing place (makings whole p)) (e ∙ is_cut_globally k s q)))
+pub makings-partial : {T : Type 0} (r : Result T Memory) (whole : ℕ → Bool) (place : spec.Place) (x : Plan) (ks : List Expr) (cs : List AggCall) (q : Plan) (old new : List Making) → x ≡ PartialAgg ks cs q → OnOk r (new ≡ old ++ all_standing (place ++ Left ∷ []) (makings whole q)) → OnOk r (new ≡ old ++ all_standing place (makings whole x))
+makings-partial r whole place x ks cs q old new e0 h = on_ok r (new ≡ old ++ all_standing (place ++ Left ∷ []) (makings whole q)) (new ≡ old ++ all_standing place (makings whole x)) (here-makings-partial whole place x ks cs q old new e0) h
+
+here-makings-last : (whole : ℕ → Bool) (place : spec.Place) (x : Plan) (k : ℕ) (cs : List AggCall) (q : Plan) (old new : List Making) → x ≡ FinalAgg k cs q → new ≡ old ++ all_standing (place ++ Left ∷ []) (makings whole q) → new ≡ old ++ all_standing place (makings whole x)
+here-makings-last whole place x k cs q old new e h = h ∙ ap (λ (zs : List Making). old ++ zs) (lifted place Left (makings whole q) ∙ sym (ap (λ (p : Plan). all_standing place (makings whole p)) (e ∙ is_finished k cs q)))
+
+pub makings-last : {T : Type 0} (r : Result T Memory) (whole : ℕ → Bool) (place : spec.Place) (x : Plan) (k : ℕ) (cs : List AggCall) (q : Plan) (old new : List Making) → x ≡ FinalAgg k cs q → OnOk r (new ≡ old ++ all_standing (place ++ Left ∷ []) (makings whole q)) → OnOk r (new ≡ old ++ all_standing place (makings whole x))
+makings-last r whole place x k cs q old new e0 h = on_ok r (new ≡ old ++ all_standing (place ++ Left ∷ []) (makings whole q)) (new ≡ old ++ all_standing place (makings whole x)) (here-makings-last whole place x k cs q old new e0) h
+
+here-makings-sort : (whole : ℕ → Bool) (place : spec.Place) (x : Plan) (ks : List SortKey) (q : Plan) (old new : List Making) → x ≡ Sort ks q → new ≡ old ++ all_standing (place ++ Left ∷ []) (makings whole q) → new ≡ old ++ all_standing place (makings whole x)
+here-makings-sort whole place x ks q old new e h = h ∙ ap (λ (zs : List Making). old ++ zs) (lifted place Left (makings whole q) ∙ sym (ap (λ (p : Plan). all_standing place (makings whole p)) (e ∙ is_ordered ks q)))
+
+pub makings-sort : {T : Type 0} (r : Result T Memory) (whole : ℕ → Bool) (place : spec.Place) (x : Plan) (ks : List SortKey) (q : Plan) (old new : List Making) → x ≡ Sort ks q → OnOk r (new ≡ old ++ all_standing (place ++ Left ∷ []) (makings whole q)) → OnOk r (new ≡ old ++ all_standing place (makings whole x))
+makings-sort r whole place x ks q old new e0 h = on_ok r (new ≡ old ++ all_standing (place ++ Left ∷ []) (makings whole q)) (new ≡ old ++ all_standing place (makings whole x)) (here-makings-sort whole place x ks q old new e0) h
+
+here-makings-local : (whole : ℕ → Bool) (place : spec.Place) (x : Plan) (k : ℕ) (q : Plan) (old new : List Making) → x ≡ LocalLimit k q → new ≡ old ++ all_standing (place ++ Left ∷ []) (makings whole q) → new ≡ old ++ all_standing place (makings whole x)
+here-makings-local whole place x k q old new e h = h ∙ ap (λ (zs : List Making). old ++ zs) (lifted place Left (makings whole q) ∙ sym (ap (λ (p : Plan). all_standing place (makings whole p)) (e ∙ is_cut_locally k q)))
+
+pub makings-local : {T : Type 0} (r : Result T Memory) (whole : ℕ → Bool) (place : spec.Place) (x : Plan) (k : ℕ) (q : Plan) (old new : List Making) → x ≡ LocalLimit k q → OnOk r (new ≡ old ++ all_standing (place ++ Left ∷ []) (makings whole q)) → OnOk r (new ≡ old ++ all_standing place (makings whole x))
+makings-local r whole place x k q old new e0 h = on_ok r (new ≡ old ++ all_standing (place ++ Left ∷ []) (makings whole q)) (new ≡ old ++ all_standing place (makings whole x)) (here-makings-local whole place x k q old new e0) h
+
+here-makings-global : (whole : ℕ → Bool) (place : spec.Place) (x : Plan) (k : Option ℕ) (s : ℕ) (q : Plan) (old new : List Making) → x ≡ GlobalLimit k s q → new ≡ old ++ all_standing (place ++ Left ∷ []) (makings whole q) → new ≡ old ++ all_standing place (makings whole x)
+here-makings-global whole place x k s q old new e h = h ∙ ap (λ (zs : List Making). old ++ zs) (lifted place Left (makings whole q) ∙ sym (ap (λ (p : Plan). all_standing place (makings whole p)) (e ∙ is_cut_globally k s q)))
+
+pub makings-global : {T : Type 0} (r : Result T Memory) (whole : ℕ → Bool) (place : spec.Place) (x : Plan) (k : Option ℕ) (s : ℕ) (q : Plan) (old new : List Making) → x ≡ GlobalLimit k s q → OnOk r (new ≡ old ++ all_standing (place ++ Left ∷ []) (makings whole q)) → OnOk r (new ≡ old ++ all_standing place (makings whole x))
+makings-global r whole place x k s q old new e0 h = on_ok r (new ≡ old ++ all_standing (place ++ Left ∷ []) (makings whole q)) (new ≡ old ++ all_standing place (makings whole x)) (here-makings-global whole place x k s q old new e0) h
 
 pushed : (place : spec.Place) (old mid new xs ys : List Making) → mid ≡ old ++ xs → new ≡ mid ++ ys → new ≡ old ++ (xs ++ ys)
 pushed place old mid new xs ys first then = then ∙ (ap (λ (zs : List Making). zs ++ ys) first ∙ append_assoc old xs ys)
 
-pub makings-exchange : (whole : ℕ → Bool) (place : spec.Place) (x : Plan) (t : Target) (q : Plan) (old mid new : List Making) → x ≡ Exchange t q →
+here-makings-exchange : (whole : ℕ → Bool) (place : spec.Place) (x : Plan) (t : Target) (q : Plan) (old mid new : List Making) → x ≡ Exchange t q →
     mid ≡ old ++ all_standing (place ++ Left ∷ []) (makings whole q) → new ≡ mid ++ all_standing place (made_here whole t q) → new ≡ old ++ all_standing place (makings whole x)
-makings-exchange whole place x t q old mid new e first then =
+here-makings-exchange whole place x t q old mid new e first then =
     pushed place old mid new (all_standing (place ++ Left ∷ []) (makings whole q)) (all_standing place (made_here whole t q)) first then ∙
     ap (λ (zs : List Making). old ++ zs) (ap (λ (ys : List Making). ys ++ all_standing place (made_here whole t q)) (lifted place Left (makings whole q)) ∙
     (sym (split place (map (below Left) (makings whole q)) (made_here whole t q)) ∙ sym (ap (λ (p : Plan). all_standing place (makings whole p)) (e ∙ is_moved t q))))
 
+pub makings-exchange : {T : Type 0} (done : Result T Memory) (whole : ℕ → Bool) (place : spec.Place) (x : Plan) (t : Target) (q : Plan) (old mid new : List Making) → x ≡ Exchange t q →
+    mid ≡ old ++ all_standing (place ++ Left ∷ []) (makings whole q) → OnOk done (new ≡ mid ++ all_standing place (made_here whole t q)) → OnOk done (new ≡ old ++ all_standing place (makings whole x))
+makings-exchange done whole place x t q old mid new e first then =
+    on_ok done (new ≡ mid ++ all_standing place (made_here whole t q)) (new ≡ old ++ all_standing place (makings whole x)) (here-makings-exchange whole place x t q old mid new e first) then
+
 -- the makings of the two plans below a node, one after the other
-pub both_pushed : (whole : ℕ → Bool) (place : spec.Place) (l r : Plan) (old mid new : List Making) →
+here-both : (whole : ℕ → Bool) (place : spec.Place) (l r : Plan) (old mid new : List Making) →
     mid ≡ old ++ all_standing (place ++ Left ∷ []) (makings whole l) → new ≡ mid ++ all_standing (place ++ Right ∷ []) (makings whole r) → new ≡ old ++ both_standing whole place l r
-both_pushed whole place l r old mid new first then =
+here-both whole place l r old mid new first then =
     pushed place old mid new (all_standing (place ++ Left ∷ []) (makings whole l)) (all_standing (place ++ Right ∷ []) (makings whole r)) first then
+
+pub both_pushed : {T : Type 0} (done : Result T Memory) (whole : ℕ → Bool) (place : spec.Place) (l r : Plan) (old mid new : List Making) →
+    mid ≡ old ++ all_standing (place ++ Left ∷ []) (makings whole l) → OnOk done (new ≡ mid ++ all_standing (place ++ Right ∷ []) (makings whole r)) → OnOk done (new ≡ old ++ both_standing whole place l r)
+both_pushed done whole place l r old mid new first then =
+    on_ok done (new ≡ mid ++ all_standing (place ++ Right ∷ []) (makings whole r)) (new ≡ old ++ both_standing whole place l r) (here-both whole place l r old mid new first) then
 
 two : (whole : ℕ → Bool) (place : spec.Place) (x l r : Plan) (old new : List Making) → makings whole x ≡ map (below Left) (makings whole l) ++ map (below Right) (makings whole r) →
     new ≡ old ++ both_standing whole place l r → new ≡ old ++ all_standing place (makings whole x)
@@ -125,13 +161,23 @@ two whole place x l r old new e h =
     h ∙ ap (λ (zs : List Making). old ++ zs) ((λ i. lifted place Left (makings whole l) i ++ lifted place Right (makings whole r) i) ∙
     (sym (split place (map (below Left) (makings whole l)) (map (below Right) (makings whole r))) ∙ sym (ap (all_standing place) e)))
 
-pub makings-join : (whole : ℕ → Bool) (place : spec.Place) (x : Plan) (y : JoinWay) (k : JoinKind) (ks : JoinKeys) (v w : ℕ) (l r : Plan) (old new : List Making) → x ≡ Join y k ks v w l r →
+here-makings-join : (whole : ℕ → Bool) (place : spec.Place) (x : Plan) (y : JoinWay) (k : JoinKind) (ks : JoinKeys) (v w : ℕ) (l r : Plan) (old new : List Making) → x ≡ Join y k ks v w l r →
     new ≡ old ++ both_standing whole place l r → new ≡ old ++ all_standing place (makings whole x)
-makings-join whole place x y k ks v w l r old new e h = two whole place x l r old new (ap (makings whole) (e ∙ is_matched y k ks v w l r)) h
+here-makings-join whole place x y k ks v w l r old new e h = two whole place x l r old new (ap (makings whole) (e ∙ is_matched y k ks v w l r)) h
 
-pub makings-union : (whole : ℕ → Bool) (place : spec.Place) (x l r : Plan) (old new : List Making) → x ≡ Union l r →
+pub makings-join : {T : Type 0} (done : Result T Memory) (whole : ℕ → Bool) (place : spec.Place) (x : Plan) (y : JoinWay) (k : JoinKind) (ks : JoinKeys) (v w : ℕ) (l r : Plan) (old new : List Making) → x ≡ Join y k ks v w l r →
+    OnOk done (new ≡ old ++ both_standing whole place l r) → OnOk done (new ≡ old ++ all_standing place (makings whole x))
+makings-join done whole place x y k ks v w l r old new e h =
+    on_ok done (new ≡ old ++ both_standing whole place l r) (new ≡ old ++ all_standing place (makings whole x)) (here-makings-join whole place x y k ks v w l r old new e) h
+
+here-makings-union : (whole : ℕ → Bool) (place : spec.Place) (x l r : Plan) (old new : List Making) → x ≡ Union l r →
     new ≡ old ++ both_standing whole place l r → new ≡ old ++ all_standing place (makings whole x)
-makings-union whole place x l r old new e h = two whole place x l r old new (ap (makings whole) (e ∙ is_both_of l r)) h
+here-makings-union whole place x l r old new e h = two whole place x l r old new (ap (makings whole) (e ∙ is_both_of l r)) h
+
+pub makings-union : {T : Type 0} (done : Result T Memory) (whole : ℕ → Bool) (place : spec.Place) (x : Plan) (l r : Plan) (old new : List Making) → x ≡ Union l r →
+    OnOk done (new ≡ old ++ both_standing whole place l r) → OnOk done (new ≡ old ++ all_standing place (makings whole x))
+makings-union done whole place x l r old new e h =
+    on_ok done (new ≡ old ++ both_standing whole place l r) (new ≡ old ++ all_standing place (makings whole x)) (here-makings-union whole place x l r old new e) h
 
 pub ruleset making_steps = (makings-filter, makings-project, makings-partial, makings-last, makings-sort, makings-local, makings-global, makings-exchange, makings-join, makings-union, both_pushed)
 

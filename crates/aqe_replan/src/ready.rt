@@ -1,6 +1,6 @@
 //! Which stages can be made of a plan.
 
-ghost use Rattle.std.specs.Prelude.{◌≡◌, ◌++◌, ◌∷◌, [], IfOk, OnOk};
+ghost use Rattle.std.specs.Prelude.{◌≡◌, ◌++◌, ◌∷◌, [], ◌&&◌, IfOk, OnOk};
 ghost use Rattle.aqe_making.specs.Ready as spec;
 ghost use Rattle.aqe_making.specs.Makings.{makings, made_here, stage_of};
 ghost use Rattle.aqe_replan.specs.Seen.{listed, standing, all_standing, both_standing};
@@ -21,6 +21,7 @@ fn is_listed(stages: &StageList, stage: StageId) -> bool
 
 /// Whether a plan holds no exchange and reads whole stages alone.
 #[tactic(auto, using(crate::proofs::Steps::ready_steps))]
+#[cycle(is_ready)]
 pub(crate) fn is_ready(plan: &Plan, whole: &StageList) -> bool
     ensures { result ≡ spec.is_ready (listed whole.now) plan.now }
 {
@@ -29,18 +30,24 @@ pub(crate) fn is_ready(plan: &Plan, whole: &StageList) -> bool
         Plan::Exchange { .. } => false,
         Plan::Read { stage, .. } => is_listed(whole, *stage),
         Plan::ReadBroadcast { stage } => is_listed(whole, *stage),
-        Plan::Filter { child, .. }
-        | Plan::Project { child, .. }
-        | Plan::PartialAgg { child, .. }
-        | Plan::FinalAgg { child, .. }
-        | Plan::Sort { child, .. }
-        | Plan::LocalLimit { child, .. }
-        | Plan::GlobalLimit { child, .. } => is_ready(child.get(), whole),
-        Plan::Join { left, right, .. } => {
-            is_ready(left.get(), whole) && is_ready(right.get(), whole)
-        }
-        Plan::Union { left, right } => is_ready(left.get(), whole) && is_ready(right.get(), whole),
+        Plan::Filter { child, .. } => is_ready(child.get(), whole),
+        Plan::Project { child, .. } => is_ready(child.get(), whole),
+        Plan::PartialAgg { child, .. } => is_ready(child.get(), whole),
+        Plan::FinalAgg { child, .. } => is_ready(child.get(), whole),
+        Plan::Sort { child, .. } => is_ready(child.get(), whole),
+        Plan::LocalLimit { child, .. } => is_ready(child.get(), whole),
+        Plan::GlobalLimit { child, .. } => is_ready(child.get(), whole),
+        Plan::Join { left, right, .. } => are_ready(left.get(), right.get(), whole),
+        Plan::Union { left, right } => are_ready(left.get(), right.get(), whole),
     }
+}
+
+/// Whether the plans below a node are both ready.
+#[cycle(is_ready)]
+fn are_ready(left: &Plan, right: &Plan, whole: &StageList) -> bool
+    ensures { result ≡ (spec.is_ready (listed whole.now) left.now && spec.is_ready (listed whole.now) right.now) }
+{
+    is_ready(left, whole) && is_ready(right, whole)
 }
 
 /// Whether the sample that a range names is whole.
@@ -147,13 +154,25 @@ pub(crate) fn push_makings(
         | Plan::Nothing { .. }
         | Plan::Read { .. }
         | Plan::ReadBroadcast { .. } => Ok(()),
-        Plan::Filter { child, .. }
-        | Plan::Project { child, .. }
-        | Plan::PartialAgg { child, .. }
-        | Plan::FinalAgg { child, .. }
-        | Plan::Sort { child, .. }
-        | Plan::LocalLimit { child, .. }
-        | Plan::GlobalLimit { child, .. } => {
+        Plan::Filter { child, .. } => {
+            push_below(found, alloc, child.get(), place, Side::Left, whole)
+        }
+        Plan::Project { child, .. } => {
+            push_below(found, alloc, child.get(), place, Side::Left, whole)
+        }
+        Plan::PartialAgg { child, .. } => {
+            push_below(found, alloc, child.get(), place, Side::Left, whole)
+        }
+        Plan::FinalAgg { child, .. } => {
+            push_below(found, alloc, child.get(), place, Side::Left, whole)
+        }
+        Plan::Sort { child, .. } => {
+            push_below(found, alloc, child.get(), place, Side::Left, whole)
+        }
+        Plan::LocalLimit { child, .. } => {
+            push_below(found, alloc, child.get(), place, Side::Left, whole)
+        }
+        Plan::GlobalLimit { child, .. } => {
             push_below(found, alloc, child.get(), place, Side::Left, whole)
         }
         Plan::Exchange { to, child } => {
