@@ -3,7 +3,7 @@
 ghost use Rattle.std.specs.Prelude.{◌≡◌, ◌++◌, ◌∷◌, [], ◌&&◌, IfOk, OnOk};
 ghost use Rattle.aqe_making.specs.Ready as spec;
 ghost use Rattle.aqe_making.specs.Makings.{makings, made_here, stage_of};
-ghost use Rattle.aqe_replan.specs.Seen.{listed, standing, all_standing, both_standing};
+ghost use Rattle.aqe_replan.specs.Seen.{listed, standing, all_standing};
 
 use crate::{Making, Makings, Sides};
 use aqe_base::{Listing, Memory, Side, StageId, StageList};
@@ -20,7 +20,6 @@ fn is_listed(stages: &StageList, stage: StageId) -> bool
 }
 
 /// Whether a plan holds no exchange and reads whole stages alone.
-#[tactic(auto, using(crate::proofs::Steps::ready_steps))]
 #[cycle(is_ready)]
 pub(crate) fn is_ready(plan: &Plan, whole: &StageList) -> bool
     ensures { result ≡ spec.is_ready (listed whole.now) plan.now }
@@ -37,17 +36,22 @@ pub(crate) fn is_ready(plan: &Plan, whole: &StageList) -> bool
         Plan::Sort { child, .. } => is_ready(child.get(), whole),
         Plan::LocalLimit { child, .. } => is_ready(child.get(), whole),
         Plan::GlobalLimit { child, .. } => is_ready(child.get(), whole),
-        Plan::Join { left, right, .. } => are_ready(left.get(), right.get(), whole),
-        Plan::Union { left, right } => are_ready(left.get(), right.get(), whole),
+        Plan::Join { left, right, .. } => {
+            let left = is_ready(left.get(), whole);
+            are_both(left, is_ready(right.get(), whole))
+        }
+        Plan::Union { left, right } => {
+            let left = is_ready(left.get(), whole);
+            are_both(left, is_ready(right.get(), whole))
+        }
     }
 }
 
-/// Whether the plans below a node are both ready.
-#[cycle(is_ready)]
-fn are_ready(left: &Plan, right: &Plan, whole: &StageList) -> bool
-    ensures { result ≡ (spec.is_ready (listed whole.now) left.now && spec.is_ready (listed whole.now) right.now) }
+/// Whether both sides of a node are ready.
+fn are_both(left: bool, right: bool) -> bool
+    ensures { result ≡ (left && right) }
 {
-    is_ready(left, whole) && is_ready(right, whole)
+    left && right
 }
 
 /// Whether the sample that a range names is whole.
@@ -137,7 +141,6 @@ fn push_here(
 }
 
 /// Appends the makings of the exchanges of a plan that stands at a place.
-#[tactic(auto, using(crate::proofs::Steps::making_steps))]
 #[cycle(push_makings)]
 pub(crate) fn push_makings(
     found: &mut Makings,
@@ -180,28 +183,14 @@ pub(crate) fn push_makings(
             push_here(found, alloc, to, child.get(), place, whole)
         }
         Plan::Join { left, right, .. } => {
-            push_both(found, alloc, left.get(), right.get(), place, whole)
+            push_below(found, alloc, left.get(), place, Side::Left, whole)?;
+            push_below(found, alloc, right.get(), place, Side::Right, whole)
         }
         Plan::Union { left, right } => {
-            push_both(found, alloc, left.get(), right.get(), place, whole)
+            push_below(found, alloc, left.get(), place, Side::Left, whole)?;
+            push_below(found, alloc, right.get(), place, Side::Right, whole)
         }
     }
-}
-
-/// Appends the makings of the two plans below a node that stands at a place.
-#[cycle(push_makings)]
-fn push_both(
-    found: &mut Makings,
-    alloc: Global,
-    left: &Plan,
-    right: &Plan,
-    place: &[Side],
-    whole: &StageList,
-) -> Result<(), Memory>
-    ensures { OnOk result (found.new ≡ found.old ++ both_standing (listed whole.now) place.now left.now right.now) }
-{
-    push_below(found, alloc, left, place, Side::Left, whole)?;
-    push_below(found, alloc, right, place, Side::Right, whole)
 }
 
 /// Appends the makings of a plan that stands at a side of the node at a place.

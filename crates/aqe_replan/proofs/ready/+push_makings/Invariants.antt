@@ -3,10 +3,7 @@ use Rattle.aqe_physical.specs.declared.plan.Plan.{size-Plan}
 use Rattle.aqe_replan.proofs.ready.+push_makings.Given as goal
 
 abbrev pub decreases-push_makings : goal.decreases-push_makings
-decreases-push_makings l = 4 * size-Plan l.plan.now
+decreases-push_makings l = 2 * size-Plan l.plan.now
 
 abbrev pub decreases-push_below : goal.decreases-push_below
-decreases-push_below l = 4 * size-Plan l.plan.now + 1
-
-abbrev pub decreases-push_both : goal.decreases-push_both
-decreases-push_both l = 4 * (size-Plan l.left.now + size-Plan l.right.now) + 2
+decreases-push_below l = 2 * size-Plan l.plan.now + 1
