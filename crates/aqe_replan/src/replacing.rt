@@ -41,7 +41,6 @@ pub(crate) fn replaced(
 }
 
 /// A plan with its top replaced, if that is an exchange.
-#[tactic(auto, using(crate::proofs::Steps::here_steps))]
 fn here(alloc: Global, plan: &Plan, newest: Newest) -> Result<Plan, Memory>
     ensures { IfOk result (λ p. p ≡ replaced_with newest.stage newest.maps [] plan.now) }
 {
@@ -52,7 +51,6 @@ fn here(alloc: Global, plan: &Plan, newest: Newest) -> Result<Plan, Memory>
 }
 
 /// What reads a stage in the place of the exchange that it was made of.
-#[tactic(auto, using(crate::proofs::Steps::read_steps))]
 fn read(alloc: Global, to: &Target, child: &Plan, newest: Newest) -> Result<Plan, Memory>
     ensures { IfOk result (λ p. p ≡ read_with newest.stage newest.maps to.now child.now) }
 {
