@@ -1,2 +1,4 @@
+pub mod Steps
+pub mod Replaced
 pub mod Others
 pub mod Parts

@@ -1,6 +1,6 @@
 -- What can be made of the versions of a query, one stage after the other.
 use Rattle.std.proofs.Common.{◌≡◌, ℕ, Bool, true, false, List, [], ◌∷◌, ◌++◌, Some, None, refl, ap, sym, ◌∙◌, subst, inl, inr}
-use Rattle.std.specs.Prelude.{All, cond, not, ◌&&◌}
+use Rattle.std.specs.Prelude.{All, cond, not, ◌&&◌, ◌⊎◌}
 use Rattle.std.proofs.lemmas.List.Elements.{All-nil, All-cons, All-head, All-tail, All-append}
 use Rattle.aqe_base.specs.declared.stage_id.StageId.{StageId}
 use Rattle.aqe_base.specs.declared.join_kind.Side.TheVariants.{Left, Right}
@@ -16,7 +16,9 @@ use Rattle.aqe_making.specs.After.{after, stage_at}
 use Rattle.aqe_making.proofs.Lists.{no_stage, same_stage, at_most_one, same_head, same_tail, no_making, false_right}
 use Rattle.aqe_making.proofs.Standing.{standing, made_at}
 use Rattle.aqe_making.proofs.Stepping.{queries_one_by_one}
-use Rattle.aqe_replan.specs.Versions.{listed, is_result, CanBeMade, plan_after, result_after}
+use Rattle.aqe_replan.specs.declared.versions.Versions.{Versions}
+use Rattle.aqe_replan.specs.Seen.{listed}
+use Rattle.aqe_replan.specs.Versions.{ready_of, is_result, CanBeMade, plan_after, result_after}
 use Rattle.aqe_replan.specs.Laws.{ReadyCanBeMade, StagesAreMadeOfThePlan, OthersStayReady}
 
 abbrev Stands : Plan → Making → Type 0
@@ -79,7 +81,7 @@ behind : (whole : ℕ → Bool) (number : StageId) (plan : Plan) (has_result : B
     all_makings whole (result_after making has_result) (plan_after number making plan) ≡ others
 behind whole number plan has_result making others [] l w e =
     let only : cond (is_ready whole plan && not has_result) (result_of plan ∷ []) [] ≡ making ∷ others =
-    sym (ap (λ (ms : List Making). ms ++ cond (is_ready whole plan && not has_result) (result_of plan ∷ []) []) l) ∙ e in
+        sym (ap (λ (ms : List Making). ms ++ cond (is_ready whole plan && not has_result) (result_of plan ∷ []) []) l) ∙ e in
     let is = the_result (is_ready whole plan && not has_result) plan making others only in
     ap (λ (m : Making). all_makings whole (result_after m has_result) (plan_after number m plan)) is.0 ∙ (none_behind whole plan l ∙ sym is.1)
 behind whole number plan has_result making others (m ∷ ms) l w e =

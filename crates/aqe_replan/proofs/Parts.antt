@@ -1,6 +1,6 @@
 -- The parts of a first plan can be numbered: it has no more than its files and its exchanges say.
-use Rattle.std.proofs.Common.{◌≡◌, ℕ, ◌<◌, ◌^◌, List, [], ◌∷◌, zero, suc, true, false, sym, subst, arith}
-use Rattle.std.specs.Prelude.{All, max}
+use Rattle.std.proofs.Common.{◌≡◌, ℕ, ◌<◌, ◌^◌, List, [], ◌∷◌, zero, suc, true, false, refl, sym, ap, ◌∙◌, subst, arith}
+use Rattle.std.specs.Prelude.{All, max, length, slice_index_or}
 use Rattle.std.proofs.lemmas.List.Elements.{All-head, All-tail}
 use Rattle.aqe_base.specs.declared.join_kind.JoinKind.{JoinKind}
 use Rattle.aqe_logical.specs.declared.plan.Placement.{Placement}
@@ -9,7 +9,7 @@ use Rattle.aqe_physical.specs.declared.sizes.Estimate.{Estimate}
 use Rattle.aqe_physical.specs.declared.target.Target.{Target}
 use Rattle.aqe_physical.specs.declared.target.JoinWay.{JoinWay}
 use Rattle.aqe_physical.specs.declared.plan.Plan.{Plan}
-use Rattle.aqe_physical.specs.Counts.{part_count, target_count}
+use Rattle.aqe_physical.specs.Counts.{part_count, target_count, PartsFit}
 use Rattle.aqe_physical.proofs.Nodes.{Each, all_nodes}
 use Rattle.aqe_settings.specs.Values.{partitions}
 use Rattle.aqe_fitting.specs.InForce.{in_force}
@@ -66,4 +66,4 @@ module _ (ways : JoinKind → Logical → Logical → JoinWay → Type 0) (n : �
 pub few_parts : FirstPlansHaveFewParts
 few_parts plan x estimates sizes settings fits built few files =
     all_nodes Fits plan (counted (ways_by_sizes estimates sizes (in_force settings)) (partitions settings) (files_of estimates) few
-    (λ index. files_few estimates index files) x plan fits.0.0 fits.0.1 built).1
+        (λ index. files_few estimates index files) x plan fits.0.0 fits.0.1 built).1

@@ -13,7 +13,8 @@ use Rattle.aqe_making.specs.Makings.{Making}
 use Rattle.aqe_fitting.specs.Fits.{Fits}
 use Rattle.aqe_planner.specs.Built.{IsBuilt}
 use Rattle.aqe_replan.specs.declared.versions.Versions.{Versions}
-use Rattle.aqe_replan.specs.Versions.{listed, ready_of, is_result, CanBeMade, plan_after, result_after}
+use Rattle.aqe_replan.specs.Seen.{listed}
+use Rattle.aqe_replan.specs.Versions.{ready_of, is_result, CanBeMade, plan_after, result_after}
 
 -- each stage that is ready can be made
 abbrev pub ReadyCanBeMade : Type 0

@@ -1,2 +1,4 @@
+pub mod Seen
+pub mod Reading
 pub mod Versions
 pub mod Laws
