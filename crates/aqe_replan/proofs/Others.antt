@@ -1,6 +1,6 @@
 -- What can be made of the versions of a query, one stage after the other.
 use Rattle.std.proofs.Common.{◌≡◌, ℕ, Bool, true, false, List, [], ◌∷◌, ◌++◌, Some, None, refl, ap, sym, ◌∙◌, subst, inl, inr}
-use Rattle.std.specs.Prelude.{All, cond, not, ◌&&◌, ◌⊎◌}
+use Rattle.std.specs.Prelude.{All, cond, not, ◌&&◌}
 use Rattle.std.proofs.lemmas.List.Elements.{All-nil, All-cons, All-head, All-tail, All-append}
 use Rattle.aqe_base.specs.declared.stage_id.StageId.{StageId}
 use Rattle.aqe_base.specs.declared.join_kind.Side.TheVariants.{Left, Right}
@@ -16,9 +16,8 @@ use Rattle.aqe_making.specs.After.{after, stage_at}
 use Rattle.aqe_making.proofs.Lists.{no_stage, same_stage, at_most_one, same_head, same_tail, no_making, false_right}
 use Rattle.aqe_making.proofs.Standing.{standing, made_at}
 use Rattle.aqe_making.proofs.Stepping.{queries_one_by_one}
-use Rattle.aqe_replan.specs.declared.versions.Versions.{Versions}
 use Rattle.aqe_replan.specs.Seen.{listed}
-use Rattle.aqe_replan.specs.Versions.{ready_of, is_result, CanBeMade, plan_after, result_after}
+use Rattle.aqe_replan.specs.Versions.{is_result, CanBeMade, plan_after, result_after}
 use Rattle.aqe_replan.specs.Laws.{ReadyCanBeMade, StagesAreMadeOfThePlan, OthersStayReady}
 
 abbrev Stands : Plan → Making → Type 0

@@ -1,6 +1,6 @@
 -- The parts of a first plan can be numbered: it has no more than its files and its exchanges say.
-use Rattle.std.proofs.Common.{◌≡◌, ℕ, ◌<◌, ◌^◌, List, [], ◌∷◌, zero, suc, true, false, refl, sym, ap, ◌∙◌, subst, arith}
-use Rattle.std.specs.Prelude.{All, max, length, slice_index_or}
+use Rattle.std.proofs.Common.{◌≡◌, ℕ, ◌<◌, ◌^◌, List, [], ◌∷◌, zero, suc, true, false, sym, subst, arith}
+use Rattle.std.specs.Prelude.{All, max}
 use Rattle.std.proofs.lemmas.List.Elements.{All-head, All-tail}
 use Rattle.aqe_base.specs.declared.join_kind.JoinKind.{JoinKind}
 use Rattle.aqe_logical.specs.declared.plan.Placement.{Placement}
@@ -9,7 +9,7 @@ use Rattle.aqe_physical.specs.declared.sizes.Estimate.{Estimate}
 use Rattle.aqe_physical.specs.declared.target.Target.{Target}
 use Rattle.aqe_physical.specs.declared.target.JoinWay.{JoinWay}
 use Rattle.aqe_physical.specs.declared.plan.Plan.{Plan}
-use Rattle.aqe_physical.specs.Counts.{part_count, target_count, PartsFit}
+use Rattle.aqe_physical.specs.Counts.{part_count, target_count}
 use Rattle.aqe_physical.proofs.Nodes.{Each, all_nodes}
 use Rattle.aqe_settings.specs.Values.{partitions}
 use Rattle.aqe_fitting.specs.InForce.{in_force}

@@ -1,5 +1,5 @@
 -- What the code's walks need of each form of a plan, as the code makes it.
-use Rattle.std.proofs.Common.{◌≡◌, ℕ, Bool, true, false, ◌+◌, ◌++◌, List, [], ◌∷◌, map, Option, Some, None, zero, suc, arith, ap, refl, sym, ◌∙◌, subst, append_assoc, append-nil}
+use Rattle.std.proofs.Common.{◌≡◌, ℕ, Bool, false, ◌+◌, ◌++◌, List, [], ◌∷◌, map, Option, Some, None, zero, suc, arith, ap, refl, sym, ◌∙◌, subst, append_assoc, append-nil}
 use Rattle.std.specs.Prelude.{IfOk, OnOk, Result, Ok, Err, ◌&&◌}
 use Rattle.std.specs.List.{range_with_len}
 use Rattle.aqe_base.specs.declared.join_kind.JoinKind.{JoinKind}
@@ -19,7 +19,6 @@ use Rattle.aqe_physical.specs.Forms.{join_of}
 use Rattle.aqe_physical.specs.declared.target.JoinWay.{JoinWay}
 use Rattle.aqe_physical.specs.declared.plan.Plan.{Plan}
 use Rattle.aqe_physical.specs.declared.plan.Plan.TheVariants.{Filter, Project, Exchange, Join, PartialAgg, FinalAgg, Sort, LocalLimit, GlobalLimit, Union}
-use Rattle.aqe_physical.specs.Shapes.{kept, mapped, moved, matched, grouped, finished, ordered, cut_locally, cut_globally, both_of}
 use Rattle.aqe_physical.proofs.Shapes.{is_kept, is_mapped, is_moved, is_matched, is_grouped, is_finished, is_ordered, is_cut_locally, is_cut_globally, is_both_of}
 use Rattle.aqe_base.specs.declared.cells.Rect.{Rect}
 use Rattle.aqe_rects.specs.Rectangles.{plain_rect, plain_rects}

@@ -1,4 +1,3 @@
-use Rattle.std.proofs.Common.{◌+◌, ◌*◌}
 use Rattle.aqe_physical.specs.declared.plan.Plan.{size-Plan}
 use Rattle.aqe_replan.proofs.ready.+is_ready.Given as goal
 

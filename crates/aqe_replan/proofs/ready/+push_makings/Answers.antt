@@ -1,6 +1,6 @@
 use Rattle.std.proofs.Common.{ap, sym, ◌∙◌, ◌≡◌, subst, [], ◌∷◌, ◌++◌}
 use Rattle.std.specs.Prelude.{OnOk}
-use Rattle.aqe_base.specs.declared.join_kind.Side.TheVariants.{Left, Right}
+use Rattle.aqe_base.specs.declared.join_kind.Side.TheVariants.{Left}
 use Rattle.aqe_physical.specs.declared.plan.Plan.{Plan}
 use Rattle.aqe_physical.specs.declared.plan.Plan.TheVariants.{Filter, Project, Join, PartialAgg, FinalAgg, Sort, LocalLimit, GlobalLimit, Union}
 use Rattle.aqe_making.specs.Makings.{makings, made_here}

@@ -1,4 +1,4 @@
-use Rattle.std.proofs.Common.{rules, ◌≡◌, false, sym, ◌∙◌}
+use Rattle.std.proofs.Common.{rules, ◌≡◌, false}
 use Rattle.aqe_replan.specs.Versions.{is_result}
 use Rattle.aqe_replan.proofs.Replaced.{exchange_made}
 use Rattle.aqe_replan.proofs.versions.Versions.after.Goals as goal
