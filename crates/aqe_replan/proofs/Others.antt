@@ -80,7 +80,7 @@ behind : (whole : ℕ → Bool) (number : StageId) (plan : Plan) (has_result : B
     all_makings whole (result_after making has_result) (plan_after number making plan) ≡ others
 behind whole number plan has_result making others [] l w e =
     let only : cond (is_ready whole plan && not has_result) (result_of plan ∷ []) [] ≡ making ∷ others =
-        sym (ap (λ (ms : List Making). ms ++ cond (is_ready whole plan && not has_result) (result_of plan ∷ []) []) l) ∙ e in
+    sym (ap (λ (ms : List Making). ms ++ cond (is_ready whole plan && not has_result) (result_of plan ∷ []) []) l) ∙ e in
     let is = the_result (is_ready whole plan && not has_result) plan making others only in
     ap (λ (m : Making). all_makings whole (result_after m has_result) (plan_after number m plan)) is.0 ∙ (none_behind whole plan l ∙ sym is.1)
 behind whole number plan has_result making others (m ∷ ms) l w e =

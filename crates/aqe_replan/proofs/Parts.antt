@@ -66,4 +66,4 @@ module _ (ways : JoinKind → Logical → Logical → JoinWay → Type 0) (n : �
 pub few_parts : FirstPlansHaveFewParts
 few_parts plan x estimates sizes settings fits built few files =
     all_nodes Fits plan (counted (ways_by_sizes estimates sizes (in_force settings)) (partitions settings) (files_of estimates) few
-        (λ index. files_few estimates index files) x plan fits.0.0 fits.0.1 built).1
+    (λ index. files_few estimates index files) x plan fits.0.0 fits.0.1 built).1

@@ -74,7 +74,7 @@ lifted : (place : spec.Place) (side : Side) (ms : List spec.Making) → all_stan
 lifted place side [] = refl
 lifted place side (m ∷ ms) =
     let one : standing (place ++ side ∷ []) m ≡ standing place (below side m) =
-        ap (λ (p : spec.Place). record { place = p; kind = m.stage.kind; body = m.stage.body }) (append_assoc place (side ∷ []) m.place) in
+    ap (λ (p : spec.Place). record { place = p; kind = m.stage.kind; body = m.stage.body }) (append_assoc place (side ∷ []) m.place) in
     (λ i. one i ∷ lifted place side ms i)
 
 split : (place : spec.Place) (xs ys : List spec.Making) → all_standing place (xs ++ ys) ≡ all_standing place xs ++ all_standing place ys

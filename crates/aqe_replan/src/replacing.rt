@@ -9,8 +9,8 @@ ghost use Rattle.aqe_replan.specs.Reading.{read_with, replaced_with};
 use aqe_base::{JoinKind, Listing, Memory, Rect, Rects, Side, StageId};
 use aqe_boxes::{all_three, both};
 use aqe_expr::Expr;
-use aqe_logical::{AggCalls, Exprs, SortKeys, copy_calls, copy_expr, copy_exprs, copy_sort_keys};
 use aqe_join_rows::JoinKeys;
+use aqe_logical::{AggCalls, Exprs, SortKeys, copy_calls, copy_expr, copy_exprs, copy_sort_keys};
 use aqe_physical::{JoinWay, Joining, Plan, Target, copy};
 use std::alloc::Global;
 
@@ -151,10 +151,20 @@ fn on_left(alloc: Global, plan: &Plan, place: &[Side], newest: Newest) -> Result
             join(alloc, shape, left, copy(alloc, right.get()))
         }
         Plan::PartialAgg { keys, calls, child } => {
-            partial(alloc, keys, calls, replaced(alloc, child.get(), place, newest))
+            partial(
+                alloc,
+                keys,
+                calls,
+                replaced(alloc, child.get(), place, newest),
+            )
         }
         Plan::FinalAgg { keys, calls, child } => {
-            last(alloc, *keys, calls, replaced(alloc, child.get(), place, newest))
+            last(
+                alloc,
+                *keys,
+                calls,
+                replaced(alloc, child.get(), place, newest),
+            )
         }
         Plan::Sort { keys, child } => {
             sort(alloc, keys, replaced(alloc, child.get(), place, newest))
@@ -163,7 +173,12 @@ fn on_left(alloc: Global, plan: &Plan, place: &[Side], newest: Newest) -> Result
             local_limit(alloc, *count, replaced(alloc, child.get(), place, newest))
         }
         Plan::GlobalLimit { count, skip, child } => {
-            global_limit(alloc, *count, *skip, replaced(alloc, child.get(), place, newest))
+            global_limit(
+                alloc,
+                *count,
+                *skip,
+                replaced(alloc, child.get(), place, newest),
+            )
         }
         Plan::Union { left, right } => {
             let left = replaced(alloc, left.get(), place, newest);
