@@ -1,6 +1,6 @@
 //! The outputs that are kept, stage by stage and map by map.
 
-ghost use Rattle.std.specs.Prelude.{◌≡◌, ◌<◌, [], length, IsSome, Some, None, OnOk, OnErr};
+ghost use Rattle.std.specs.Prelude.{◌≡◌, ◌<◌, [], length, IsSome, is_some, Some, None, OnOk, OnErr};
 ghost use Rattle.std.specs.BTreeMap.{is_at};
 ghost use Rattle.std.specs.Map.{lookup, keys_of};
 ghost use Rattle.std.specs.List.Sorted.{IsStrictlySortedBy};
@@ -86,6 +86,16 @@ impl Outputs {
             unreachable!()
         };
         kept.release(map.0)
+    }
+
+    /// Whether the output of a map of a stage is kept.
+    pub fn is_kept(&self, stage: StageId, map: MapId) -> bool
+        ensures { result ≡ is_some (output_at self.now stage.0 map.0) }
+    {
+        match self.stages.get(&stage.0) {
+            Some(kept) => kept.is_kept(map.0),
+            None => false,
+        }
     }
 
     /// The number of maps of a stage whose output is kept.

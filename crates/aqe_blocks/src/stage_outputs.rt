@@ -1,6 +1,6 @@
 //! The outputs that are kept of one stage.
 
-ghost use Rattle.std.specs.Prelude.{◌≡◌, ◌<◌, ◌^◌, [], length, IsSome, Some, None, OnOk, OnErr, unwrap_or};
+ghost use Rattle.std.specs.Prelude.{◌≡◌, ◌<◌, ◌^◌, [], length, IsSome, is_some, Some, None, OnOk, OnErr, unwrap_or};
 ghost use Rattle.std.specs.Option.{option_map};
 ghost use Rattle.std.specs.Map.{keys_of};
 ghost use Rattle.std.specs.List.Sorted.{IsStrictlySortedBy};
@@ -51,6 +51,13 @@ impl StageOutputs {
         ensures alike { HaveCells (length result.now) self.now }
     {
         &self.outputs[&map]
+    }
+
+    /// Whether the output of a map is kept.
+    pub fn is_kept(&self, map: u32) -> bool
+        ensures { result ≡ is_some (of_map self.now map) }
+    {
+        self.outputs.contains_key(&map)
     }
 
     /// The number of outputs.

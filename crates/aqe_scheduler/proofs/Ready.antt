@@ -1,7 +1,8 @@
 -- When a task may end next, and the length of what was handed out whole.
-use Rattle.std.proofs.Common.{◌≡◌, ℕ, ◌+◌, ◌<◌, Bool, true, false, cond, not, ◌&&◌, List, [], ◌∷◌, ◌++◌, map, length, take, drop, refl, ap, ◌∙◌, sym, Some, None, get_or, arith, unwrap_or, ◌-◌, ◌^◌, zero, suc, inl, inr, is_some, slice_get, length-append}
+use Rattle.std.proofs.Common.{◌↔◌, ◌≡◌, ℕ, ◌+◌, ◌<◌, Bool, true, false, cond, not, ◌&&◌, List, [], ◌∷◌, ◌++◌, map, length, take, drop, refl, ap, ◌∙◌, sym, Some, None, get_or, arith, unwrap_or, ◌-◌, ◌^◌, zero, suc, inl, inr, is_some, slice_get, nat_lt, length-append}
 use Rattle.std.specs.List.{find, range_with_len}
-use Rattle.std.proofs.lemmas.Bool.{cases_lt}
+use Rattle.std.proofs.lemmas.Bool.{cases_lt, lt-ltb, ltb_from_iff}
+use Rattle.std.proofs.lemmas.Option.{slice_get_past}
 use Rattle.std.proofs.lemmas.List.{append-nil}
 use Rattle.aqe_scheduler.specs.History.{Birth}
 use Rattle.aqe_scheduler.specs.Stands.{AreFew}
@@ -12,6 +13,14 @@ use Rattle.aqe_scheduler.specs.Rest.{may_end, tasks_of}
 use Rattle.aqe_scheduler.specs.Tables.{births_on, needed_on, done_on}
 use Rattle.aqe_scheduler.specs.Cursors.{AllDone}
 use Rattle.aqe_scheduler.proofs.Ranges.{find_skip}
+
+pub and_true : (b : Bool) → (b && true) ≡ b
+and_true true = refl
+and_true false = refl
+
+pub and_false : (b : Bool) → (b && false) ≡ false
+and_false true = refl
+and_false false = refl
 
 find_none : {X : Type 0} (p : X → Bool) (f : ℕ → X) (xs : List ℕ) → ((t : ℕ) → p (f t) ≡ false) → find p (map f xs) ≡ None
 find_none p f [] never = refl
@@ -28,10 +37,6 @@ pub none_before : (board : List Stage) (firsts : List ℕ) (s : ℕ) → AllDone
     find (may_end (births_on board) (needed_on board) (done_on board)) (map (λ t. (s, t)) (range_with_len (get_or firsts s 0) (task_count (births_on board) s - get_or firsts s 0)))
 none_before board firsts s all = find_skip _ (λ t. (s, t)) (get_or firsts s 0) (task_count (births_on board) s)
     (λ t below. ap (λ d. needed_on board s && (not d && has_inputs (done_on board) (unwrap_or (task_reads (births_on board) s t) []))) (all t below) ∙ and_false (needed_on board s))
-  where
-    and_false : (b : Bool) → (b && false) ≡ false
-    and_false true = refl
-    and_false false = refl
 
 -- whether a task of a needed stage may end
 pub ready_is : (n r : Bool) (b : Bool) → n ≡ true → r ≡ b → (n && r) ≡ b
@@ -86,3 +91,23 @@ few_more born birth few below small =
     count [] all (suc s) = all s
     count (b ∷ bs) all zero = all zero
     count (b ∷ bs) all (suc s) = count bs (λ i. all (suc i)) s
+
+-- a stage is born where its number is below how many there are
+pub born_below : (board : List Stage) (s : ℕ) → nat_lt s (length board) ≡ is_some (slice_get (births_on board) s)
+born_below board s =
+    let many : length (births_on board) ≡ length board = births_length board in
+    elim (cases_lt s (length board)) as (λ w. nat_lt s (length board) ≡ is_some (slice_get (births_on board) s)) [
+      | inl below ↦ lt-ltb s (length board) below ∙ sym (there board s below)
+      | inr past ↦ sym (ltb_from_iff (never (λ h. omega (arith, h, past)))) ∙ sym (ap (λ o. is_some o) (slice_get_past (births_on board) s (omega (arith, many, past))))
+    ]
+  where
+    there : (bs : List Stage) (i : ℕ) → i < length bs → is_some (slice_get (births_on bs) i) ≡ true
+    there [] i below = absurd (omega (arith, below))
+    there (x ∷ xs) zero below = refl
+    there (x ∷ xs) (suc i) below = there xs i (omega (arith, below))
+
+    clash : false ≡ true → ⊥
+    clash h = cc (h)
+
+    never : {m n : ℕ} → (m < n → ⊥) → (false ≡ true) ↔ (m < n)
+    never past = record { 0 = λ h. absurd (clash h); 1 = λ h. absurd (past h) }

@@ -1,6 +1,7 @@
 -- A board that stands for a history gives each event its fate, and stands for the history with the event.
-use Rattle.std.proofs.Common.{◌≡◌, ℕ, Bool, true, false, cond, List, [], ◌∷◌, ◌++◌, refl, ap, ◌∙◌, sym, subst, Option, Some, None, is_some, slice_get, option_to_list}
+use Rattle.std.proofs.Common.{◌&&◌, ◌≡◌, ℕ, Bool, true, false, cond, List, [], ◌∷◌, ◌++◌, refl, ap, ◌∙◌, sym, subst, Option, Some, None, is_some, slice_get, option_to_list}
 use Rattle.std.specs.Option.{option_and_then}
+use Rattle.std.specs.List.{list_all, range_with_len}
 use Rattle.std.proofs.lemmas.List.Sums.{fold-append}
 use Rattle.aqe_base.specs.declared.stage_id.StageId.{StageId}
 use Rattle.aqe_base.specs.declared.ids.TaskId.{TaskId}
@@ -14,9 +15,9 @@ use Rattle.aqe_scheduler.specs.declared.need.Need.{Need}
 use Rattle.aqe_scheduler.specs.declared.task.Task.{Task}
 use Rattle.aqe_scheduler.specs.declared.stage.Stage.{Stage}
 use Rattle.aqe_scheduler.specs.History.{Birth, Entry, Happens, Step, Happened}
-use Rattle.aqe_scheduler.specs.Looks.{births, needed, counted, available, done, shuffles}
+use Rattle.aqe_scheduler.specs.Looks.{births, needed, counted, available, done, shuffles, task_count, whole}
 use Rattle.aqe_scheduler.specs.Fates.{task_reads, has_inputs, can_fetch, judged, fate_by, fate_of, step_of, noted}
-use Rattle.aqe_scheduler.specs.Tables.{births_on, needed_on, task_on, found_on, done_on}
+use Rattle.aqe_scheduler.specs.Tables.{births_on, needed_on, task_on, found_on, done_on, whole_on}
 use Rattle.aqe_scheduler.specs.Changes.{settled}
 use Rattle.aqe_scheduler.specs.Rest.{rest_by, rest_of}
 use Rattle.aqe_scheduler.specs.Stands.{StandsAt, Stands, StandsFor}
@@ -130,3 +131,7 @@ taken before after event f fate_is after_is entries stands =
 -- and so is the rest
 pub rest_stands : (board : List Stage) (h : List Step) → Stands board h → rest_by (births_on board) (needed_on board) (done_on board) ≡ rest_of h
 rest_stands board h stands = λ i. rest_by (stands.births i) (λ s. stands.needed s i) (λ s t. done_stands board h stands s t i)
+
+-- and which stages are whole
+pub whole_stands : (board : List Stage) (h : List Step) → Stands board h → (s : ℕ) → whole_on board s ≡ whole h s
+whole_stands board h stands s = λ i. is_some (slice_get (stands.births i) s) && list_all (λ t. done_stands board h stands s t i) (range_with_len 0 (task_count (stands.births i) s))

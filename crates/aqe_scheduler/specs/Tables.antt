@@ -1,10 +1,11 @@
 -- The tables of the board as plain data, and how a step changes them.
-use Rattle.std.specs.Prelude.{ℕ, zero, suc, ◌+◌, Bool, true, false, cond, ◌==◌, List, [], ◌∷◌, map, Option, Some, None, is_some, slice_get, unwrap_or, option_and_then}
+use Rattle.std.specs.Prelude.{ℕ, zero, suc, ◌+◌, Bool, true, false, cond, ◌&&◌, ◌==◌, List, [], ◌∷◌, map, Option, Some, None, is_some, slice_get, unwrap_or, option_and_then}
+use Rattle.std.specs.List.{list_all, range_with_len}
 use Rattle.aqe_base.specs.declared.ids.ExecId.{ExecId}
 use Rattle.aqe_scheduler.specs.declared.task.Task.{Task}
 use Rattle.aqe_scheduler.specs.declared.stage.Stage.{Stage}
 use Rattle.aqe_scheduler.specs.History.{Birth}
-use Rattle.aqe_scheduler.specs.Looks.{shuffles, stopped}
+use Rattle.aqe_scheduler.specs.Looks.{shuffles, stopped, task_count}
 
 -- a task that never ended and never failed
 abbrev pub fresh : Task
@@ -66,3 +67,7 @@ task_on board s t = unwrap_or (found_on board s t) fresh
 
 abbrev pub done_on : List Stage → ℕ → ℕ → Bool
 done_on board s t = cond (shuffles (births_on board) s) (is_some (task_on board s t).on) (task_on board s t).counted
+
+-- a stage is whole if it is born and all its tasks are done
+abbrev pub whole_on : List Stage → ℕ → Bool
+whole_on board s = is_some (slice_get (births_on board) s) && list_all (done_on board s) (range_with_len 0 (task_count (births_on board) s))

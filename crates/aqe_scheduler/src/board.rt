@@ -2,7 +2,7 @@
 
 ghost use Rattle.std.specs.Prelude.{◌≡◌, ◌<◌, ◌^◌, ◌∷◌, [], ◌++◌, ℕ, List, Some, None, length, is_some, slice_get, option_map, IfOk, IfErr};
 ghost use Rattle.aqe_scheduler.specs.History.{Entry, Adds, Marks, Happens};
-ghost use Rattle.aqe_scheduler.specs.Looks.{available, done, fails, stopped, streak as streak_in};
+ghost use Rattle.aqe_scheduler.specs.Looks.{available, done, fails, stopped, streak as streak_in, whole};
 ghost use Rattle.aqe_scheduler.specs.Fates.{fate_of, noted};
 ghost use Rattle.aqe_scheduler.specs.Rest.{rest_of};
 ghost use Rattle.aqe_scheduler.specs.Tables.{births_on};
@@ -105,6 +105,13 @@ impl Board {
         ensures { (h : List Entry) → StandsFor self.now h → result ≡ done (noted h) stage.0 task.0 }
     {
         looks::is_done(&self.stages, stage.0 as usize, task.0 as usize)
+    }
+
+    /// Whether the stage is born and all its tasks are done.
+    pub fn is_whole(&self, stage: StageId) -> bool
+        ensures { (h : List Entry) → StandsFor self.now h → result ≡ whole (noted h) stage.0 }
+    {
+        cursors::is_whole(&self.stages, &self.firsts, stage.0 as usize)
     }
 
     /// Whether the output of the map is there.

@@ -3,6 +3,7 @@
 ghost use Rattle.std.specs.Prelude.{◌≡◌, List, slice_index};
 ghost use Rattle.aqe_scheduler.specs.Changes.{settled};
 ghost use Rattle.aqe_scheduler.specs.Cursors.{AllDone, AreDone, GoesBack};
+ghost use Rattle.aqe_scheduler.specs.Tables.{whole_on};
 ghost use Rattle.aqe_scheduler.specs.declared.stage.Stage.{Stage as StageData};
 
 use crate::fate::Fate;
@@ -31,6 +32,19 @@ fn first_open(stages: &[Stage], stage: usize, from: usize) -> usize
         }
     }
     from.max(count)
+}
+
+/// Whether the stage is born and all its tasks are done.
+pub fn is_whole(stages: &[Stage], firsts: &[usize], stage: usize) -> bool
+    requires { AreDone stages.now firsts.now }
+    ensures { result ≡ whole_on stages.now stage }
+{
+    for task in first_of(firsts, stage)..count_of(stages, stage) {
+        if !is_done(stages, stage, task) {
+            return false;
+        }
+    }
+    stage < stages.len()
 }
 
 /// Moves the number of a stage on to its first task that is not done.
