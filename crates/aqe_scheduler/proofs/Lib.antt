@@ -1,12 +1,12 @@
-mod Behind
-mod Born
-mod Edits
-mod Events
-mod Follow
-mod Fronts
-mod KnownAnswers
-mod Ranges
-mod Ready
-mod Runs
-mod Tables
-mod Taken
+pub mod Behind
+pub mod Born
+pub mod Edits
+pub mod Events
+pub mod Follow
+pub mod Fronts
+pub mod KnownAnswers
+pub mod Ranges
+pub mod Ready
+pub mod Runs
+pub mod Tables
+pub mod Taken

@@ -84,7 +84,15 @@ impl Tables {
         }
     }
 
-    fn is_loaded(&self, table: u32) -> bool
+    /// The number behind the greatest table number that was loaded; 0 where none was.
+    pub fn len(&self) -> usize
+        ensures { result ≡ length self.now }
+    {
+        self.slots.len()
+    }
+
+    /// Whether the table is loaded.
+    pub fn is_loaded(&self, table: u32) -> bool
         ensures { result ≡ is_some (table_at self.now table) }
     {
         match self.slots.get(table as usize) {

@@ -1,0 +1,4 @@
+pub mod Histories
+pub mod Wholes
+pub mod Endings
+pub mod Marks

@@ -1,0 +1,2 @@
+//! Laws of histories whose events are endings of tasks.
+#![tactic(auto)]
