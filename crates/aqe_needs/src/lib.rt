@@ -1,0 +1,10 @@
+//! What tasks read, which stages are needed, and what a stage is to the board.
+#![tactic(auto)]
+
+mod kinds;
+mod marks;
+mod tasks;
+
+pub use kinds::tag_of;
+pub use marks::needed;
+pub use tasks::reads_of;
