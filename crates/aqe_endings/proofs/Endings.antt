@@ -15,6 +15,7 @@ use Rattle.aqe_scheduler.specs.Looks.{births, needed, counts, done, whole, task_
 use Rattle.aqe_scheduler.specs.Fates.{fate_of, judged, task_reads, has_inputs}
 use Rattle.aqe_scheduler.specs.Rest.{tasks_of, places, may_end, rest_of, rest_ending}
 use Rattle.aqe_scheduler.proofs.Ready.{and_false}
+use Rattle.aqe_endings.specs.Peace.{IsPeaceful}
 use Rattle.aqe_endings.proofs.Histories.{births_same, done_more}
 use Rattle.aqe_endings.proofs.Wholes.{range_all}
 
@@ -146,13 +147,6 @@ whole_other h place f s apart =
 
     done_same : (t : ℕ) → done (h ++ Happened (rest_ending place) f ∷ []) s t ≡ done h s t
     done_same t = done_more h (Happened (rest_ending place) f) (λ a b c. refl) refl s t ∙ ap (λ b. done h s t || b) (uncounted f t) ∙ or_false (done h s t)
-
--- a step that is no failure and no failed fetch
-abbrev pub IsPeaceful : Step → Type 0
-IsPeaceful (Added birth) = Unit {0}
-IsPeaceful (Marked stage is_needed) = Unit {0}
-IsPeaceful (Happened (Ended stage task on) f) = Unit {0}
-IsPeaceful (Happened event f) = ⊥
 
 -- where all steps are such, no failure and no failed fetch was counted
 pub no_fails : (h : List Step) → All IsPeaceful h → (s t : ℕ) → fails h s t ≡ 0

@@ -1,12 +1,12 @@
 -- What a history says after one more step, where the step takes nothing away.
-use Rattle.std.proofs.Common.{◌≡◌, refl, ap, ◌∙◌, ◌≤◌, ◌<◌, zero, suc, ℕ, Bool, true, false, cond, not, ◌||◌, ◌&&◌, List, [], ◌∷◌, ◌++◌, length, arith}
+use Rattle.std.proofs.Common.{◌≡◌, refl, ap, ◌∙◌, ◌≤◌, ◌<◌, zero, suc, ℕ, Bool, true, false, cond, not, ◌||◌, ◌&&◌, List, [], ◌∷◌, ◌++◌, arith}
 use Rattle.std.specs.List.{list_any, filter_map}
 use Rattle.aqe_base.specs.declared.event.Event.{Event}
 use Rattle.aqe_scheduler.specs.declared.fate.Fate.{Fate}
 use Rattle.aqe_scheduler.specs.History.{Step, Added, Marked, Happened}
 use Rattle.aqe_scheduler.specs.Looks.{births, born_in, counts, counted, available, leaves, executor_of, takes_away, shuffles, done}
-use Rattle.aqe_scheduler.specs.Fates.{fates}
 use Rattle.aqe_scheduler.specs.Positions.{upto}
+use Rattle.aqe_endings.specs.Peace.{happened}
 use Rattle.aqe_scheduler.proofs.Behind.{any_more, births_more, counted_more}
 use Rattle.aqe_scheduler.proofs.Ready.{and_true}
 use Rattle.std.proofs.lemmas.List.{append-nil}
@@ -85,10 +85,6 @@ done_counted h s t is = either (shuffles (births h) s) is
     either : (b : Bool) → cond b (available h s t) (counted h s t) ≡ true → counted h s t ≡ true
     either true is = all h is
     either false is = is
-
--- the number of events in a history
-abbrev pub happened : List Step → ℕ
-happened h = length (fates h)
 
 pub upto_all : (h : List Step) → upto (happened h) h ≡ h
 upto_all [] = refl

@@ -1,5 +1,5 @@
 -- When stages are whole behind one more step, and at which position each was whole first.
-use Rattle.std.proofs.Common.{◌≡◌, refl, ap, sym, ◌∙◌, ◌≤◌, ◌<◌, ◌+◌, zero, suc, ℕ, Bool, true, false, cond, ◌||◌, ◌&&◌, List, [], ◌∷◌, ◌++◌, length, arith, Option, Some, None, is_some, slice_get, length-append, inl, inr}
+use Rattle.std.proofs.Common.{◌≡◌, refl, ap, sym, ◌∙◌, ◌≤◌, ◌<◌, ◌+◌, zero, suc, ℕ, Bool, true, false, cond, ◌||◌, ◌&&◌, List, [], ◌∷◌, ◌++◌, length, arith, Some, None, is_some, slice_get, length-append, inl, inr}
 use Rattle.std.specs.Prelude.{All, ◌⊎◌}
 use Rattle.std.specs.List.{list_all, range_with_len, find, filter_map}
 use Rattle.std.specs.Option.{option_or}
@@ -15,7 +15,8 @@ use Rattle.aqe_scheduler.specs.Looks.{births, counted, available, done, whole, t
 use Rattle.aqe_scheduler.specs.Fates.{fates, fate_in}
 use Rattle.aqe_scheduler.specs.Positions.{upto}
 use Rattle.aqe_scheduler.proofs.Behind.{births_more, counted_more}
-use Rattle.aqe_endings.proofs.Histories.{IsQuiet, births_same, available_more, done_more, done_counted, happened, upto_all, upto_event, upto_quiet}
+use Rattle.aqe_endings.specs.Peace.{happened, first_whole}
+use Rattle.aqe_endings.proofs.Histories.{IsQuiet, births_same, available_more, done_more, done_counted, upto_all, upto_event, upto_quiet}
 
 -- tests over ranges
 pub range_end : (a n : ℕ) → range_with_len a (suc n) ≡ range_with_len a n ++ (a + n) ∷ []
@@ -33,10 +34,6 @@ find_over_range {p = p} {q = q} a (suc n) each =
 
 all_over_range : {p q : ℕ → Bool} (a n : ℕ) → ((k : ℕ) → p k ≡ q k) → list_all p (range_with_len a n) ≡ list_all q (range_with_len a n)
 all_over_range {p = p} {q = q} a n each = λ i. list_all (λ k. each k i) (range_with_len a n)
-
--- the first position at which a stage is whole, if there is one
-abbrev pub first_whole : List Step → ℕ → Option ℕ
-first_whole h s = find (λ k. whole (upto k h) s) (range_with_len 0 (suc (happened h)))
 
 pub happened_event : (h : List Step) (event : Event) (f : Fate) → happened (h ++ Happened event f ∷ []) ≡ suc (happened h)
 happened_event h event f =

@@ -15,6 +15,7 @@ use Rattle.aqe_scheduler.specs.Looks.{births, born_in, done, task_count, whole}
 use Rattle.aqe_scheduler.specs.Fates.{noted, step_of}
 use Rattle.aqe_scheduler.specs.Positions.{upto}
 use Rattle.aqe_journal.specs.Needed.{birth_over, needed_stages}
+use Rattle.aqe_journal.specs.Steady.{AllBorn}
 use Rattle.aqe_journal.specs.States.{State, history, positions, is_whole, is_materialised, with_stage, with_event, with_marks, marks_of}
 
 noted_more : (es : List Entry) (e : Entry) → noted (es ++ e ∷ []) ≡ noted es ++ step_of (noted es) e ∷ []
@@ -38,10 +39,6 @@ count_marks n [] es = ap count (append-nil es)
 count_marks n (mark ∷ marks) es =
     ap count (sym (append_assoc es (Marks n mark ∷ []) (marks_of (suc n) marks))) ∙
     (count_marks (suc n) marks (es ++ Marks n mark ∷ []) ∙ (count_one es (Marks n mark) ∙ plus_none (count es)))
-
--- as many births as stages
-abbrev pub AllBorn : State → Type 0
-AllBorn now = count now.entries ≡ length now.stages
 
 pub stage_born : (now : State) (making : Making) → AllBorn now → AllBorn (with_stage now making)
 stage_born now making h =

@@ -53,10 +53,11 @@ use Rattle.aqe_journal.specs.Asked.{Asked}
 use Rattle.aqe_journal.specs.States.{State, first_state, with_stage, with_event, with_marks, is_materialised, number_of}
 use Rattle.aqe_journal.specs.LegalRecord.{IsFirst, PlansAgain, never, keeps, adopts, Takes, goes_on, turns, settled, has_result, SoFar, begun, one_on}
 use Rattle.aqe_journal.specs.Laws.{IsSound, CanBeCarriedOut, StagesOfRunsRun}
-use Rattle.aqe_journal.proofs.Born.{AllBorn, stage_born, event_born, marks_born, not_materialised}
+use Rattle.aqe_journal.specs.Steady.{AllBorn, IsNoRangeKind, Kept, Steady}
+use Rattle.aqe_journal.proofs.Born.{stage_born, event_born, marks_born, not_materialised}
 
 -- a plan that is ready holds no exchange
-no_exchange : (whole : ℕ → Bool) (p : Plan) → is_ready whole p ≡ true → Each IsNoExchange p
+pub no_exchange : (whole : ℕ → Bool) (p : Plan) → is_ready whole p ≡ true → Each IsNoExchange p
 no_exchange whole OneRow h = tt
 no_exchange whole (Scan table files) h = tt
 no_exchange whole (Nothing count width) h = tt
@@ -79,7 +80,7 @@ no_exchange whole (both_of p q) h =
     (tt, no_exchange whole p (and_left (is_ready whole p) (is_ready whole q) h), no_exchange whole q (and_right (is_ready whole p) (is_ready whole q) h))
 
 -- what holds of each plan within a plan holds of the body of a stage that is made of it
-body_each : (P : Plan → Type 0) (number : StageId) (p q : Plan) (stage : Stage) → Made number p stage q → Each P p → Each P stage.body
+pub body_each : (P : Plan → Type 0) (number : StageId) (p q : Plan) (stage : Stage) → Made number p stage q → Each P p → Each P stage.body
 body_each P number p q stage (shuffled to child s) h = h.1
 body_each P number p q stage (broadcasted child) h = h.1
 body_each P number p q stage (sampled keys n child) h = h.1
@@ -117,13 +118,7 @@ ranges_stay number p q stage (in_cut_globally n k x y st m) h = (tt, ranges_stay
 ranges_stay number p q stage (in_first x y other st m) h = (tt, ranges_stay number x y st m h.1, h.2)
 ranges_stay number p q stage (in_second other x y st m) h = (tt, h.1, ranges_stay number x y st m h.2)
 
--- a kind that sends to no range
-IsNoRangeKind : StageKind → Type 0
-IsNoRangeKind (kind.Shuffle (target.Range keys n sample)) = ⊥
-IsNoRangeKind other = Unit {0}
-
 kind_of : (number : StageId) (p q : Plan) (stage : Stage) → Made number p stage q → Each IsNoRange p → IsNoRangeKind stage.kind
-unfolding IsNoRangeKind
 kind_of number p q stage (shuffled (target.Hash keys n) child s) h = tt
 kind_of number p q stage (shuffled (target.Range keys n sample) child s) h = absurd h.0
 kind_of number p q stage (shuffled target.Single child s) h = tt
@@ -145,7 +140,6 @@ kind_of number p q stage (in_second other x y st m) h = kind_of number x y st m 
 
 -- what such a kind asks does not look at stages
 keep_more : (stages other : Stages) (k : StageKind) (a b : List Row) → IsNoRangeKind k → a ≡ b → CanKeep stages k a → CanKeep other k b
-unfolding IsNoRangeKind
 keep_more stages other (kind.Shuffle (target.Hash keys n)) a b r e h = subst (CanKeep other (kind.Shuffle (target.Hash keys n))) e h
 keep_more stages other (kind.Shuffle (target.Range keys n sample)) a b r e h = absurd r
 keep_more stages other (kind.Shuffle target.Single) a b r e h = tt
@@ -162,7 +156,7 @@ sample_up m n le (target.Range keys k (Some stage)) h = omega (arith, le, h)
 sample_up m n le target.Single h = tt
 sample_up m n le target.Broadcast h = tt
 
-below_up : (m n : ℕ) → m ≤ n → (p : Plan) → ReadsBelowAt m p → ReadsBelowAt n p
+pub below_up : (m n : ℕ) → m ≤ n → (p : Plan) → ReadsBelowAt m p → ReadsBelowAt n p
 below_up m n le OneRow h = tt
 below_up m n le (Scan table files) h = tt
 below_up m n le (Nothing count width) h = tt
@@ -179,14 +173,6 @@ below_up m n le (cut_locally k p) h = tt
 below_up m n le (cut_globally k s p) h = tt
 below_up m n le (both_of p q) h = tt
 
--- what a run keeps of each stage
-record Kept (tables : Tables) (stages : Stages) (stage : Stage) : Type 0 where
-  runs : RunsOver tables stages stage.body
-  none : WithoutExchange stage.body
-  below : ReadsBelow (length stages) stage.body
-  keeps : CanKeep stages stage.kind (all tables stages stage.body)
-  sends : IsNoRangeKind stage.kind
-
 kept_more : (tables : Tables) (stages more : Stages) (stage : Stage) → Kept tables stages stage → Kept tables (stages ++ more) stage
 kept_more tables stages more stage k =
     let long = length-append stages more in
@@ -199,13 +185,6 @@ kept_more tables stages more stage k =
       sends = k.sends;
     }
 
-record Steady (asked : Asked) (now : State) : Type 0 where
-  runs : RunsOver asked.tables now.stages now.plan
-  below : ReadsBelow (length now.stages) now.plan
-  ranges : WithoutRange now.plan
-  made : All (Kept asked.tables now.stages) now.stages
-  born : AllBorn now
-
 all_more : (tables : Tables) (stages : Stages) (stage : Stage) → All (Kept tables stages) stages → Kept tables (stages ++ stage ∷ []) stage →
     All (Kept tables (stages ++ stage ∷ [])) (stages ++ stage ∷ [])
 all_more tables stages stage h k =
@@ -214,7 +193,7 @@ all_more tables stages stage h k =
     (All-cons (Kept tables (stages ++ stage ∷ [])) stage [] k (All-nil (Kept tables (stages ++ stage ∷ []))))
 
 -- a stage that is made of an exchange
-step : (asked : Asked) (now : State) (making : Making) → Steady asked now → stage_at making.place now.plan ≡ Some making.stage → WithoutExchange making.stage.body →
+pub step : (asked : Asked) (now : State) (making : Making) → Steady asked now → stage_at making.place now.plan ≡ Some making.stage → WithoutExchange making.stage.body →
     Steady asked (with_stage now making)
 step asked now making s at none =
     let number = number_of (length now.stages) in
@@ -240,7 +219,7 @@ step asked now making s at none =
     }
 
 -- nothing stands at the top but an exchange, or nothing is replaced there
-stays_put : (new : Target → Plan → Plan) (p : Plan) → IsNoExchange p → exchange_replaced new [] p ≡ p
+pub stays_put : (new : Target → Plan → Plan) (p : Plan) → IsNoExchange p → exchange_replaced new [] p ≡ p
 stays_put new OneRow h = refl
 stays_put new (Scan table files) h = refl
 stays_put new (Nothing count width) h = refl
@@ -260,10 +239,9 @@ stays_put new (both_of p q) h = refl
 -- the result stage
 result_kept : (tables : Tables) (stages : Stages) (p : Plan) → RunsOver tables stages p → ReadsBelow (length stages) p → WithoutExchange p →
     Kept tables stages (record { kind = kind.Result; body = p })
-unfolding IsNoRangeKind
 result_kept tables stages p runs below none = record { runs = runs; none = none; below = below; keeps = tt; sends = tt }
 
-result_step : (asked : Asked) (now : State) → Steady asked now → WithoutExchange now.plan → Steady asked (with_stage now (result_of now.plan))
+pub result_step : (asked : Asked) (now : State) → Steady asked now → WithoutExchange now.plan → Steady asked (with_stage now (result_of now.plan))
 result_step asked now s none =
     let more : Stages = record { kind = kind.Result; body = now.plan } ∷ [] in
     let put : after (number_of (length now.stages)) [] now.plan ≡ now.plan =
@@ -308,10 +286,10 @@ settle asked now s = elim (cases_Bool (is_ready (is_materialised now) now.plan))
       (all_steps asked (is_materialised now) (makings (is_materialised now) now.plan) now s (not_materialised now s.born) refl)
 ]
 
-marked : (asked : Asked) (now : State) → Steady asked now → Steady asked (with_marks now)
+pub marked : (asked : Asked) (now : State) → Steady asked now → Steady asked (with_marks now)
 marked asked now s = record { runs = s.runs; below = s.below; ranges = s.ranges; made = s.made; born = marks_born now s.born }
 
-happened : (asked : Asked) (now : State) (event : Event) → Steady asked now → Steady asked (with_event now event)
+pub happened : (asked : Asked) (now : State) (event : Event) → Steady asked now → Steady asked (with_event now event)
 happened asked now event s = record { runs = s.runs; below = s.below; ranges = s.ranges; made = s.made; born = event_born now event s.born }
 
 -- the first plan of a query has no range and reads no stage
@@ -349,7 +327,7 @@ module _ (ways : JoinKind → Logical → Logical → JoinWay → Type 0) (n : �
   quiet x p w (table.skip_moved skip z r u d s) y q = absurd y.0
   quiet x p w (table.a_sampled stage z r u d) y q = absurd y.0
 
-start : (asked : Asked) (plan : Plan) → IsSound asked → IsFirst asked plan → Steady asked (first_state asked.query plan)
+pub start : (asked : Asked) (plan : Plan) → IsSound asked → IsFirst asked plan → Steady asked (first_state asked.query plan)
 start asked plan sound first =
     let q = quiet (ways_by_sizes asked.estimates [] (in_force asked.settings)) (partitions asked.settings) (files_of asked.estimates) asked.query plan first.0.0 first.0.1
     (logical_walk.each IsPlannedYet asked.query sound.planned) (logical_walk.each IsOfAQuery asked.query sound.closed) in

@@ -5,3 +5,4 @@ pub mod Known
 pub mod Restrictions
 pub mod LegalRecord
 pub mod Laws
+pub mod Steady

@@ -1,0 +1,5 @@
+pub mod BuiltPlans
+pub mod Calm
+pub mod Results
+pub mod CalmStates
+pub mod RestRuns

@@ -1,0 +1,38 @@
+-- The forms of plans that tasks carry out so far, each with a part at least.
+use Rattle.std.specs.Prelude.{◌≤◌, length}
+use Rattle.aqe_physical.specs.declared.target.Target.{Target}
+use Rattle.aqe_physical.specs.declared.target.Target.TheVariants as target
+use Rattle.aqe_physical.specs.declared.plan.Plan.{Plan, OneRow, Scan, Nothing, Read, ReadBroadcast}
+use Rattle.aqe_physical.specs.Shapes.{kept, mapped, moved, matched, grouped, finished, ordered, cut_locally, cut_globally, both_of}
+use Rattle.aqe_physical.specs.Counts.{part_count}
+use Rattle.aqe_stages.specs.Stages.{Stage}
+use Rattle.aqe_task.specs.Built.{IsBuiltBody, IsBuiltKind}
+
+-- where rows go: by a hash to one part at least, or to a single part
+abbrev pub IsBuiltTo : Target → Type 0
+IsBuiltTo (target.Hash keys n) = 1 ≤ n
+IsBuiltTo (target.Range keys n sample) = ⊥
+IsBuiltTo target.Single = Unit {0}
+IsBuiltTo target.Broadcast = ⊥
+
+-- what may stand in a plan
+abbrev pub IsBuiltNode : Plan → Type 0
+IsBuiltNode OneRow = Unit {0}
+IsBuiltNode (Scan table files) = Unit {0}
+IsBuiltNode (Nothing count width) = ⊥
+IsBuiltNode (Read stage maps reducers rects) = 1 ≤ length rects
+IsBuiltNode (ReadBroadcast stage) = ⊥
+IsBuiltNode (kept test child) = Unit {0}
+IsBuiltNode (mapped items child) = Unit {0}
+IsBuiltNode (moved to child) = IsBuiltTo to
+IsBuiltNode (matched how kind keys v w left right) = ⊥
+IsBuiltNode (grouped keys calls child) = Unit {0}
+IsBuiltNode (finished keys calls child) = Unit {0}
+IsBuiltNode (ordered keys child) = ⊥
+IsBuiltNode (cut_locally count child) = ⊥
+IsBuiltNode (cut_globally count skip child) = ⊥
+IsBuiltNode (both_of left right) = ⊥
+
+-- a stage that tasks carry out, of which there is one at least
+abbrev pub IsCarriedOut : Stage → Type 0
+IsCarriedOut stage = IsBuiltBody stage.body × IsBuiltKind stage.kind × (1 ≤ part_count stage.body)

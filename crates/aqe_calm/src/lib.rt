@@ -1,0 +1,2 @@
+//! Runs in which nothing but the rest ends tasks.
+#![tactic(auto)]
