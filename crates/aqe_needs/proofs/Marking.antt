@@ -1,8 +1,9 @@
 -- The marks of the last stages, and the flags of those before them.
-use Rattle.std.proofs.Common.{◌≡◌, ℕ, zero, suc, ◌+◌, ◌<◌, ◌≤◌, Bool, true, false, ◌||◌, ◌&&◌, not, List, [], ◌∷◌, ◌++◌, map, length, drop, reverse, get_or, refl, ap, sym, ◌∙◌, subst, arith, reverse-reverse, Option, Some, None}
+use Rattle.std.proofs.Common.{◌≡◌, ℕ, zero, suc, ◌+◌, ◌<◌, ◌≤◌, Bool, true, false, ◌||◌, ◌&&◌, not, List, [], ◌∷◌, ◌++◌, map, length, drop, reverse, get_or, refl, ap, sym, ◌∙◌, subst, arith, Option, Some, None}
 use Rattle.std.specs.List.{range_with_len}
 use Rattle.std.proofs.lemmas.List.FromFn.{length-map-range_with_len, map-range_with_len_more, get_or-map-range_with_len}
 use Rattle.std.proofs.lemmas.Grind.{reverse_onto}
+use Rattle.std.proofs.lemmas.List.{reverse-reverse}
 use Rattle.aqe_physical.specs.declared.plan.Plan.{Plan}
 use Rattle.aqe_stages.specs.Stages.{Stage}
 use Rattle.aqe_journal.specs.declared.record.StageNote.{StageNote}
@@ -45,7 +46,7 @@ drop_at [] m note below is = absurd (omega (arith, below))
 drop_at (x ∷ notes) zero note below is = ap (λ (y : StageNote). stage_of y ∷ stages_of notes) (sym is)
 drop_at (x ∷ notes) (suc m) note below is = drop_at notes m note (omega (arith, below)) is
 
-head_or : Bool → List Bool → Bool
+abbrev head_or : Bool → List Bool → Bool
 head_or b [] = b
 head_or b (x ∷ xs) = x
 
@@ -162,3 +163,42 @@ ended whole plan notes last old mid marks made before taken over reversed w is =
     length_of (x ∷ xs) = ap suc (length_of xs)
     under : (k a b : ℕ) → k < 0 + a → a ≡ b → k < b
     under k a b h e = omega (arith, h, e)
+
+-- a flag that was taken is that of a stage
+pub inside : (w : ℕ → Bool) (plan : Plan) (notes : List StageNote) (last : Option Bool) (old mid marks : List Bool) (flag : Bool) (m : ℕ) →
+    AreMarked w plan (stages_of notes) (length old) old marks → IsWithoutLast old last mid → last ≡ Some flag → m ≡ length mid → m < length notes
+inside w plan notes last old mid marks flag m before taken some count =
+    let popped : old ≡ mid ++ flag ∷ [] = subst (λ (o : Option Bool). IsWithoutLast old o mid) some taken in
+    few_of (length old) (length (stages_of notes)) (length notes) m before.few (ap length popped ∙ (length_more mid flag ∙ ap suc (sym count))) (length_of notes)
+  where
+    length_more : (xs : List Bool) (b : Bool) → length (xs ++ b ∷ []) ≡ suc (length xs)
+    length_more [] b = refl
+    length_more (x ∷ xs) b = ap suc (length_more xs b)
+    length_of : (xs : List StageNote) → length (stages_of xs) ≡ length xs
+    length_of [] = refl
+    length_of (x ∷ xs) = ap suc (length_of xs)
+    few_of : (a b c k : ℕ) → a ≤ b → a ≡ suc k → b ≡ c → k < c
+    few_of a b c k h e f = omega (arith, h, e, f)
+
+pub smaller : (p : ℕ → Bool) (last : Option Bool) (old mid new : List Bool) (flag : Bool) → IsWithoutLast old last mid → last ≡ Some flag → new ≡ noted p 0 mid → length new < length old
+smaller p last old mid new flag taken some made =
+    let popped : old ≡ mid ++ flag ∷ [] = subst (λ (o : Option Bool). IsWithoutLast old o mid) some taken in
+    less (length old) (length mid) (length new) (ap length popped ∙ length_more mid flag) (ap length made ∙ length_noted p 0 mid)
+  where
+    length_more : (xs : List Bool) (b : Bool) → length (xs ++ b ∷ []) ≡ suc (length xs)
+    length_more [] b = refl
+    length_more (x ∷ xs) b = ap suc (length_more xs b)
+    length_noted : (q : ℕ → Bool) (n : ℕ) (xs : List Bool) → length (noted q n xs) ≡ length xs
+    length_noted q n [] = refl
+    length_noted q n (x ∷ xs) = ap suc (length_noted q (n + 1) xs)
+    less : (a b c : ℕ) → a ≡ suc b → c ≡ b → c < a
+    less a b c e f = omega (arith, e, f)
+
+pub first : (w : ℕ → Bool) (plan : Plan) (notes : List StageNote) (flags marks : List Bool) (count : ℕ) → count ≡ length notes → flags ≡ map (plan_reads plan) (range_with_len 0 count) → marks ≡ [] →
+    AreMarked w plan (stages_of notes) (length flags) flags marks
+first w plan notes flags marks count all made none =
+    begun w plan (stages_of notes) flags marks (made ∙ ap (λ (k : ℕ). map (plan_reads plan) (range_with_len 0 k)) (all ∙ sym (length_of notes))) none
+  where
+    length_of : (xs : List StageNote) → length (stages_of xs) ≡ length xs
+    length_of [] = refl
+    length_of (x ∷ xs) = ap suc (length_of xs)

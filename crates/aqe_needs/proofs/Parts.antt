@@ -1,9 +1,10 @@
 -- What each part of a plan reads, by each form of a plan.
-use Rattle.std.proofs.Common.{◌≡◌, ℕ, zero, suc, ◌+◌, ◌-◌, ◌<◌, ◌^◌, Bool, true, false, cond, List, [], ◌∷◌, ◌++◌, map, flat_map, length, Option, None, Some, slice_get, get_or, refl, ap, sym, ◌∙◌, subst, arith, append_assoc, append-nil}
-use Rattle.std.specs.Prelude.{OnOk, IfOk, Result, Ok, Err, All, slice_index_or}
+use Rattle.std.proofs.Common.{◌≡◌, ℕ, zero, suc, ◌+◌, ◌-◌, ◌<◌, ◌≤◌, ◌^◌, Bool, true, false, cond, List, [], ◌∷◌, ◌++◌, map, flat_map, length, Option, None, Some, slice_get, get_or, refl, ap, sym, ◌∙◌, subst, arith, append_assoc, append-nil}
+use Rattle.std.specs.Prelude.{OnOk, IfOk, MatchResult, Result, Ok, Err, All, slice_index_or}
 use Rattle.std.specs.List.{range_with_len}
 use Rattle.std.proofs.lemmas.List.Elements.{All-tail}
 use Rattle.std.proofs.lemmas.List.FromFn.{map-range_with_len_more}
+use Rattle.std.proofs.lemmas.Bool.{lt-ltb, le-ltb}
 use Rattle.aqe_base.specs.declared.stage_id.StageId.{StageId}
 use Rattle.aqe_base.specs.declared.cells.Rect.{Rect}
 use Rattle.aqe_base.specs.declared.join_kind.JoinKind.{JoinKind}
@@ -28,7 +29,7 @@ use Rattle.aqe_physical.specs.Counts.{part_count, PartsFit}
 use Rattle.aqe_scheduler.specs.declared.need.Need.{Need}
 use Rattle.aqe_stages.specs.Reads as reads
 use Rattle.aqe_stages.specs.Reads.{needs, all_needs, sample_needs, rect_needs, join_needs, task_needs}
-use Rattle.aqe_needs.specs.Maps.{need_with, sample_reads, part_reads, all_reads, side_reads, either_reads, takes_left, takes_right, counts_of, task_reads}
+use Rattle.aqe_needs.specs.Maps.{need_with, sample_reads, part_reads, all_reads, side_reads, takes_left, takes_right, counts_of, task_reads}
 use Rattle.aqe_journal.specs.declared.record.StageNote.{StageNote}
 use Rattle.aqe_journal.specs.Needed.{map_count, need_over, reads_of}
 use Rattle.aqe_needs.specs.Noted.{stages_of}
@@ -40,6 +41,11 @@ map_both {X} {Y} f (x ∷ xs) ys = ap (λ (zs : List Y). f x ∷ zs) (map_both f
 -- a result that is handed on
 pub same_reads : {T : Type 0} (r : Result T Memory) (old new a b : List Need) → a ≡ b → OnOk r (new ≡ old ++ a) → OnOk r (new ≡ old ++ b)
 same_reads r old new a b e h = subst (λ (l : List Need). OnOk r (new ≡ old ++ l)) e h
+
+-- an item that is pushed
+pub pushed : {T E : Type 0} (r : Result T E) (old new : List Need) (x : Need) (b : List Need) → x ∷ [] ≡ b → MatchResult r (λ _. new ≡ old ++ x ∷ []) (λ _. new ≡ old) → OnOk r (new ≡ old ++ b)
+pushed (Ok v) old new x b e h = h ∙ ap (λ (l : List Need). old ++ l) e
+pushed (Err v) old new x b e h = tt
 
 -- a result that is handed on behind what was appended before it
 pub more_reads : {T : Type 0} (r : Result T Memory) (old mid new a b c : List Need) → mid ≡ old ++ a → a ++ b ≡ c → OnOk r (new ≡ mid ++ b) → OnOk r (new ≡ old ++ c)
@@ -86,8 +92,22 @@ reads-join counts m x y k ks v w l r zl zr tl tr e il ir el er =
     (λ i. side_reads (el i) counts (il i) m ++ side_reads (er i) counts (ir i) m) ∙ (sides (need_with counts) y (needs l m) (all_needs l (needs l)) (needs r m) (all_needs r (needs r)) ∙
     ap (λ (p : Plan). part_reads counts p m) (sym (e ∙ is_matched y k ks v w l r)))
 
-pub reads-union : (counts : List ℕ) (k : ℕ) (x l r zl zr : Plan) → x ≡ Union l r → zl ≡ l → zr ≡ r → either_reads counts zl zr k ≡ part_reads counts x k
-reads-union counts k x l r zl zr e il ir = (λ i. either_reads counts (il i) (ir i) k) ∙ ap (λ (p : Plan). part_reads counts p k) (sym (e ∙ is_both_of l r))
+union_left : (l r : Plan) (k : ℕ) → k < part_count l → needs l k ≡ needs (both_of l r) k
+union_left l r k h = sym (ap (λ (b : Bool). cond b (needs l k) (needs r (k - part_count l))) (lt-ltb k (part_count l) h))
+
+union_right : (l r : Plan) (k : ℕ) → part_count l ≤ k → needs r (k - part_count l) ≡ needs (both_of l r) k
+union_right l r k h = sym (ap (λ (b : Bool). cond b (needs l k) (needs r (k - part_count l))) (le-ltb k (part_count l) h))
+
+pub reads-left : (counts : List ℕ) (k n : ℕ) (x l r z : Plan) → x ≡ Union l r → z ≡ l → n ≡ part_count z → k < n → part_reads counts z k ≡ part_reads counts x k
+reads-left counts k n x l r z e is count h =
+    ap (λ (p : Plan). part_reads counts p k) is ∙ (ap (map (need_with counts)) (union_left l r k (subst (λ (m : ℕ). k < m) (count ∙ ap part_count is) h)) ∙
+    ap (λ (p : Plan). part_reads counts p k) (sym (e ∙ is_both_of l r)))
+
+pub reads-right : (counts : List ℕ) (k n : ℕ) (x l r zl zr : Plan) → x ≡ Union l r → zl ≡ l → zr ≡ r → n ≡ part_count zl → n ≤ k → part_reads counts zr (k - n) ≡ part_reads counts x k
+reads-right counts k n x l r zl zr e il ir count h =
+    let is : n ≡ part_count l = count ∙ ap part_count il in
+    (λ i. part_reads counts (ir i) (k - is i)) ∙ (ap (map (need_with counts)) (union_right l r k (subst (λ (m : ℕ). m ≤ k) is h)) ∙
+    ap (λ (p : Plan). part_reads counts p k) (sym (e ∙ is_both_of l r)))
 
 -- the need of a rectangle is the same whatever the maps are counted as
 rect_same : (counts : List ℕ) (stage : StageId) (rects : List Rect) (k : ℕ) → map (need_with []) (rect_needs stage rects k) ≡ map (need_with counts) (rect_needs stage rects k)

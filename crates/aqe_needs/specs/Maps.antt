@@ -1,5 +1,5 @@
 -- What parts of plans read, with the number of maps of each stage as a list.
-use Rattle.std.specs.Prelude.{ℕ, ◌-◌, nat_lt, Bool, cond, true, false, List, map, slice_index_or}
+use Rattle.std.specs.Prelude.{ℕ, Bool, cond, true, false, List, map, slice_index_or}
 use Rattle.aqe_base.specs.declared.join_kind.Side.TheVariants.{Left, Right}
 use Rattle.aqe_physical.specs.declared.target.JoinWay.{JoinWay}
 use Rattle.aqe_physical.specs.declared.target.JoinWay.TheVariants as way
@@ -36,10 +36,6 @@ all_reads counts plan = map (need_with counts) (all_needs plan (needs plan))
 
 abbrev pub side_reads : Bool → List ℕ → Plan → ℕ → List Need
 side_reads whole counts plan k = cond whole (all_reads counts plan) (part_reads counts plan k)
-
--- what a part of a union reads
-abbrev pub either_reads : List ℕ → Plan → Plan → ℕ → List Need
-either_reads counts left right k = map (need_with counts) (cond (nat_lt k (part_count left)) (needs left k) (needs right (k - part_count left)))
 
 -- whether a part of a join reads the whole of its left side, and of its right one
 abbrev pub takes_left : JoinWay → Bool

@@ -3,7 +3,7 @@
 ghost use Rattle.std.specs.Prelude.{◌≡◌, ◌++◌, ◌∷◌, [], OnOk, map, slice_get};
 ghost use Rattle.aqe_physical.specs.Counts.{PartsFit};
 ghost use Rattle.aqe_stages.specs.Reads.{all_maps, rect_needs};
-ghost use Rattle.aqe_needs.specs.Maps.{need_with, sample_reads, part_reads, all_reads, side_reads, either_reads};
+ghost use Rattle.aqe_needs.specs.Maps.{need_with, sample_reads, part_reads, all_reads, side_reads};
 ghost use Rattle.aqe_needs.specs.Maps as spec;
 
 use aqe_base::{Memory, Rect, Side, StageId};
@@ -103,29 +103,15 @@ pub(crate) fn push_part(found: &mut Needs, plan: &Plan, k: u32, counts: &[u32]) 
             push_side(found, right.get(), k, counts, takes_right(*way))
         }
         Plan::Union { left, right } => {
-            push_either(found, left.get(), right.get(), k, counts)
+            let first = left.get();
+            let second = right.get();
+            let before = parts(first);
+            if k < before {
+                push_part(found, first, k, counts)
+            } else {
+                push_part(found, second, k - before, counts)
+            }
         }
-    }
-}
-
-/// Appends what part `k` of a union reads: a part of its left side, or of its right side behind those of the left one.
-#[cycle(push_part)]
-fn push_either(
-    found: &mut Needs,
-    left: &Plan,
-    right: &Plan,
-    k: u32,
-    counts: &[u32],
-) -> Result<(), Memory>
-    requires left { PartsFit left.now }
-    requires right { PartsFit right.now }
-    ensures { OnOk result (found.new ≡ found.old ++ either_reads counts.now left.now right.now k) }
-{
-    let before = parts(left);
-    if k < before {
-        push_part(found, left, k, counts)
-    } else {
-        push_part(found, right, k - before, counts)
     }
 }
 

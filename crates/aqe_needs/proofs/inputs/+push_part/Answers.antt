@@ -1,7 +1,7 @@
-use Rattle.std.proofs.Common.{rules, sym}
+use Rattle.std.proofs.Common.{rules, sym, arith}
 use Rattle.aqe_physical.specs.declared.plan.Plan.{the_lemmas}
 use Rattle.aqe_physical.proofs.Counted.{fits-filter, fits-project, fits-partialagg, fits-finalagg, fits-sort, fits-locallimit, fits-globallimit, fits-join-left, fits-join-right, fits-union-left, fits-union-right}
-use Rattle.aqe_needs.proofs.Parts.{same_reads, more_reads, fits-exchange, reads-filter, reads-project, reads-partial, reads-last, reads-sort, reads-local, reads-global, reads-exchange, reads-join, reads-union, reads-read, part_more}
+use Rattle.aqe_needs.proofs.Parts.{same_reads, more_reads, fits-exchange, reads-filter, reads-project, reads-partial, reads-last, reads-sort, reads-local, reads-global, reads-exchange, reads-join, reads-left, reads-right, reads-read, part_more}
 use Rattle.aqe_needs.specs.Maps.{sample_reads, all_reads, side_reads}
 use Rattle.aqe_needs.proofs.inputs.+push_part.Goals as goal
 
@@ -72,11 +72,6 @@ push_part-push_side-requires t c = (search (rules, the_lemmas), fits-join-left c
 pub push_part-push_side-requires-in-Join : goal.push_part-push_side-requires-in-Join
 push_part-push_side-requires-in-Join t c = (search (rules, the_lemmas), fits-join-right c.args.plan.now c.in-Join.way c.in-Join.kind _ c.in-Join.left_width c.in-Join.right_width c.in-Join.left c.in-Join.right c.get-in-Join-2.result.now c.in-Join.is c.get-in-Join-2.ensures c.requires)
 
-pub push_part-push_either-requires : goal.push_part-push_either-requires
-push_part-push_either-requires t c =
-    (search (rules, the_lemmas), (fits-union-left c.args.plan.now c.in-Union.left c.in-Union.right c.get-in-Union.result.now c.in-Union.is c.get-in-Union.ensures c.requires,
-    fits-union-right c.args.plan.now c.in-Union.left c.in-Union.right c.get-in-Union-2.result.now c.in-Union.is c.get-in-Union-2.ensures c.requires))
-
 pub push_part-returns-in_ok-push_sample-in-Exchange : goal.push_part-returns-in_ok-push_sample-in-Exchange
 push_part-returns-in_ok-push_sample-in-Exchange t c =
     more_reads c.push_all_parts.result c.args.found.now c.push_sample.new.found c.push_all_parts.new.found
@@ -91,8 +86,22 @@ push_part-returns-in_ok-push_side-in-Join t c =
     (reads-join c.args.counts.now c.args.k c.args.plan.now c.in-Join.way c.in-Join.kind _ c.in-Join.left_width c.in-Join.right_width c.in-Join.left c.in-Join.right c.get-in-Join.result.now c.get-in-Join-2.result.now c.takes_left.result c.takes_right.result
     c.in-Join.is c.get-in-Join.ensures c.get-in-Join-2.ensures c.takes_left.ensures c.takes_right.ensures) c.push_side-in-Join.ensures
 
-pub push_part-returns-in-Union : goal.push_part-returns-in-Union
-push_part-returns-in-Union t c =
-    same_reads c.push_either.result c.args.found.now c.push_either.new.found _ _
-    (reads-union c.args.counts.now c.args.k c.args.plan.now c.in-Union.left c.in-Union.right c.get-in-Union.result.now c.get-in-Union-2.result.now c.in-Union.is c.get-in-Union.ensures c.get-in-Union-2.ensures)
-    c.push_either.ensures
+pub push_part-parts-before-requires : goal.push_part-parts-before-requires
+push_part-parts-before-requires t c = fits-union-left c.args.plan.now c.in-Union.left c.in-Union.right c.get-first.result.now c.in-Union.is c.get-first.ensures c.requires
+
+pub push_part-push_part-requires-then-k-before : goal.push_part-push_part-requires-then-k-before
+push_part-push_part-requires-then-k-before t c = (search (rules, the_lemmas), fits-union-left c.args.plan.now c.in-Union.left c.in-Union.right c.get-first.result.now c.in-Union.is c.get-first.ensures c.requires)
+
+pub push_part-push_part-requires-else-k-before : goal.push_part-push_part-requires-else-k-before
+push_part-push_part-requires-else-k-before t c = (search (rules, the_lemmas), fits-union-right c.args.plan.now c.in-Union.left c.in-Union.right c.get-second.result.now c.in-Union.is c.get-second.ensures c.requires)
+
+pub push_part-returns-then-k-before : goal.push_part-returns-then-k-before
+push_part-returns-then-k-before t c =
+    same_reads c.push_part-then-k-before.result c.args.found.now c.push_part-then-k-before.new.found _ _
+    (reads-left c.args.counts.now c.args.k c.parts-before.result c.args.plan.now c.in-Union.left c.in-Union.right c.get-first.result.now c.in-Union.is c.get-first.ensures c.parts-before.ensures (omega arith)) c.push_part-then-k-before.ensures
+
+pub push_part-returns-else-k-before : goal.push_part-returns-else-k-before
+push_part-returns-else-k-before t c =
+    same_reads c.push_part-else-k-before.result c.args.found.now c.push_part-else-k-before.new.found _ _
+    (reads-right c.args.counts.now c.args.k c.parts-before.result c.args.plan.now c.in-Union.left c.in-Union.right c.get-first.result.now c.get-second.result.now c.in-Union.is c.get-first.ensures c.get-second.ensures c.parts-before.ensures (omega arith))
+    c.push_part-else-k-before.ensures

@@ -6,9 +6,6 @@ use Rattle.aqe_needs.proofs.inputs.+push_part.Given as goal
 abbrev pub decreases-push_part : goal.decreases-push_part
 decreases-push_part l = 3 * size-Plan l.plan.now
 
-abbrev pub decreases-push_either : goal.decreases-push_either
-decreases-push_either l = 3 * (size-Plan l.left.now + size-Plan l.right.now) + 1
-
 abbrev pub decreases-push_all_parts : goal.decreases-push_all_parts
 decreases-push_all_parts l = 3 * size-Plan l.plan.now + 1
 
