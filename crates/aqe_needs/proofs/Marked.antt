@@ -17,7 +17,6 @@ use Rattle.aqe_physical.specs.declared.target.StageKind.TheVariants as kind
 use Rattle.aqe_physical.specs.declared.target.JoinWay.{JoinWay}
 use Rattle.aqe_physical.specs.declared.plan.Plan.{Plan, OneRow, Scan, Nothing, Read, ReadBroadcast}
 use Rattle.aqe_physical.specs.declared.plan.Plan.TheVariants.{Filter, Project, Exchange, Join, PartialAgg, FinalAgg, Sort, LocalLimit, GlobalLimit, Union}
-use Rattle.aqe_physical.specs.Shapes.{kept, mapped, moved, matched, grouped, finished, ordered, cut_locally, cut_globally, both_of}
 use Rattle.aqe_physical.specs.Nodes.{nodes}
 use Rattle.aqe_physical.proofs.Shapes.{is_kept, is_mapped, is_moved, is_matched, is_grouped, is_finished, is_ordered, is_cut_locally, is_cut_globally, is_both_of}
 use Rattle.aqe_journal.specs.Needed.{node_reads, plan_reads, target_reads, kind_reads, stage_reads}
@@ -65,6 +64,7 @@ at_place n zero x (f ∷ fs) is below =
     equal : (k : ℕ) → (k == k) ≡ true
     equal zero = refl
     equal (suc k) = eqb-suc-suc k k ∙ equal k
+
     other : (k s : ℕ) → k < s → (k == s) ≡ false
     other k zero w = absurd (omega (arith, w))
     other zero (suc s) w = eqb-zero-suc s

@@ -36,7 +36,7 @@ begun w plan stages flags marks made none =
     (let rest : drop (length stages) stages ≡ [] = drop_whole stages in record {
       few = omega arith;
       front = made ∙ ((λ i. map (λ s. sym (or_false (plan_reads plan s)) i) (range_with_len 0 (length stages))) ∙
-        sym (ap (λ (later : List Stage). map (read_at w plan (length stages) later) (range_with_len 0 (length stages))) rest));
+          sym (ap (λ (later : List Stage). map (read_at w plan (length stages) later) (range_with_len 0 (length stages))) rest));
       back = none ∙ sym (ap (λ (later : List Stage). reverse (marks_from w plan (length stages) later)) rest);
     })
 
@@ -84,19 +84,19 @@ stepped w plan stages m stage mid new marks more flag goes needed at below count
     let later = drop (suc m) stages in
     let n1 : suc m ≡ m + 1 = omega arith in
     let whole : mid ++ flag ∷ [] ≡ map (read_at w plan (suc m) later) (range_with_len 0 m) ++ read_at w plan (suc m) later m ∷ [] =
-      before.front ∙ (ap (λ (k : ℕ). map (read_at w plan (suc m) later) (range_with_len 0 k)) n1 ∙ map-range_with_len_more (read_at w plan (suc m) later) 0 m m (omega arith)) in
+    before.front ∙ (ap (λ (k : ℕ). map (read_at w plan (suc m) later) (range_with_len 0 k)) n1 ∙ map-range_with_len_more (read_at w plan (suc m) later) 0 m m (omega arith)) in
     let same = same_front mid (map (read_at w plan (suc m) later) (range_with_len 0 m)) flag (read_at w plan (suc m) later m)
-      (count ∙ sym (length-map-range_with_len (read_at w plan (suc m) later) 0 m)) whole in
+    (count ∙ sym (length-map-range_with_len (read_at w plan (suc m) later) 0 m)) whole in
     let mark : needed ≡ (is_result stage.kind || read_at w plan (suc m) later m) = is ∙ ap (λ (b : Bool). is_result stage.kind || b) same.1 in
     let marks_are : needed ∷ marks_from w plan (suc m) later ≡ marks_from w plan m (drop m stages) =
-      ap (λ (b : Bool). b ∷ marks_from w plan (suc m) later) mark ∙ sym (ap (marks_from w plan m) at) in
+    ap (λ (b : Bool). b ∷ marks_from w plan (suc m) later) mark ∙ sym (ap (marks_from w plan m) at) in
     record {
       few = omega (arith, below);
       front = made ∙ (ap (noted (λ s. goes && stage_reads stage s) 0) same.0 ∙ (noted_map (λ s. goes && stage_reads stage s) (read_at w plan (suc m) later) 0 m ∙
-        ((λ i. map (λ s. read_at w plan (suc m) later s || (opens i && stage_reads stage s)) (range_with_len 0 m)) ∙
-        ((λ i. map (λ s. regroup (plan_reads plan s) (is_read_later w s (suc m) later (marks_from w plan (suc m) later)) needed (w m) (stage_reads stage s) i) (range_with_len 0 m)) ∙
-        ((λ i. map (λ s. plan_reads plan s || ((mark i && (not (w m) && stage_reads stage s)) || is_read_later w s (suc m) later (marks_from w plan (suc m) later))) (range_with_len 0 m)) ∙
-        sym (ap (λ (rest : List Stage). map (read_at w plan m rest) (range_with_len 0 m)) at))))));
+          ((λ i. map (λ s. read_at w plan (suc m) later s || (opens i && stage_reads stage s)) (range_with_len 0 m)) ∙
+          ((λ i. map (λ s. regroup (plan_reads plan s) (is_read_later w s (suc m) later (marks_from w plan (suc m) later)) needed (w m) (stage_reads stage s) i) (range_with_len 0 m)) ∙
+          ((λ i. map (λ s. plan_reads plan s || ((mark i && (not (w m) && stage_reads stage s)) || is_read_later w s (suc m) later (marks_from w plan (suc m) later))) (range_with_len 0 m)) ∙
+          sym (ap (λ (rest : List Stage). map (read_at w plan m rest) (range_with_len 0 m)) at))))));
       back = pushed ∙ (ap (λ (ms : List Bool). ms ++ needed ∷ []) before.back ∙ (sym (reverse_onto (marks_from w plan (suc m) later) needed []) ∙ ap reverse marks_are));
     }
 
@@ -112,7 +112,7 @@ step whole plan notes m note last old mid new marks more flag is_whole goes need
     let below : m < length notes = few_of (length old) (length (stages_of notes)) (length notes) m before.few size all in
     let inside : m < length (stages_of notes) = subst (λ (k : ℕ). m < k) (sym all) below in
     let then : AreMarked (marked whole) plan (stages_of notes) (suc m) (mid ++ flag ∷ []) marks =
-      subst (λ (xs : List Bool). AreMarked (marked whole) plan (stages_of notes) (suc m) xs marks) popped (subst (λ (k : ℕ). AreMarked (marked whole) plan (stages_of notes) k old marks) size before) in
+    subst (λ (xs : List Bool). AreMarked (marked whole) plan (stages_of notes) (suc m) xs marks) popped (subst (λ (k : ℕ). AreMarked (marked whole) plan (stages_of notes) k old marks) size before) in
     let same : length new ≡ m = ap length made ∙ (length_noted (λ s. goes && stage_reads (stage_of note) s) 0 mid ∙ sym count) in
     subst (λ (k : ℕ). AreMarked (marked whole) plan (stages_of notes) k new more) (sym same)
     (stepped (marked whole) plan (stages_of notes) m (stage_of note) mid new marks more flag goes needed (drop_at notes m note below at) inside (sym count) then is
@@ -121,11 +121,14 @@ step whole plan notes m note last old mid new marks more flag is_whole goes need
     length_more : (xs : List Bool) (b : Bool) → length (xs ++ b ∷ []) ≡ suc (length xs)
     length_more [] b = refl
     length_more (x ∷ xs) b = ap suc (length_more xs b)
+
     length_of : (xs : List StageNote) → length (stages_of xs) ≡ length xs
     length_of [] = refl
     length_of (x ∷ xs) = ap suc (length_of xs)
+
     few_of : (a b c k : ℕ) → a ≤ b → a ≡ suc k → b ≡ c → k < c
     few_of a b c k h e f = omega (arith, h, e, f)
+
     length_noted : (p : ℕ → Bool) (n : ℕ) (xs : List Bool) → length (noted p n xs) ≡ length xs
     length_noted p n [] = refl
     length_noted p n (x ∷ xs) = ap suc (length_noted p (n + 1) xs)
@@ -161,6 +164,7 @@ ended whole plan notes last old mid marks made before taken over reversed w is =
     length_of : (xs : List StageNote) → length (stages_of xs) ≡ length xs
     length_of [] = refl
     length_of (x ∷ xs) = ap suc (length_of xs)
+
     under : (k a b : ℕ) → k < 0 + a → a ≡ b → k < b
     under k a b h e = omega (arith, h, e)
 
@@ -174,9 +178,11 @@ inside w plan notes last old mid marks flag m before taken some count =
     length_more : (xs : List Bool) (b : Bool) → length (xs ++ b ∷ []) ≡ suc (length xs)
     length_more [] b = refl
     length_more (x ∷ xs) b = ap suc (length_more xs b)
+
     length_of : (xs : List StageNote) → length (stages_of xs) ≡ length xs
     length_of [] = refl
     length_of (x ∷ xs) = ap suc (length_of xs)
+
     few_of : (a b c k : ℕ) → a ≤ b → a ≡ suc k → b ≡ c → k < c
     few_of a b c k h e f = omega (arith, h, e, f)
 
@@ -188,9 +194,11 @@ smaller p last old mid new flag taken some made =
     length_more : (xs : List Bool) (b : Bool) → length (xs ++ b ∷ []) ≡ suc (length xs)
     length_more [] b = refl
     length_more (x ∷ xs) b = ap suc (length_more xs b)
+
     length_noted : (q : ℕ → Bool) (n : ℕ) (xs : List Bool) → length (noted q n xs) ≡ length xs
     length_noted q n [] = refl
     length_noted q n (x ∷ xs) = ap suc (length_noted q (n + 1) xs)
+
     less : (a b c : ℕ) → a ≡ suc b → c ≡ b → c < a
     less a b c e f = omega (arith, e, f)
 

@@ -1,6 +1,6 @@
 -- What each part of a plan reads, by each form of a plan.
-use Rattle.std.proofs.Common.{◌≡◌, ℕ, zero, suc, ◌+◌, ◌-◌, ◌<◌, ◌≤◌, ◌^◌, Bool, true, false, cond, List, [], ◌∷◌, ◌++◌, map, flat_map, length, Option, None, Some, slice_get, get_or, refl, ap, sym, ◌∙◌, subst, arith, append_assoc, append-nil}
-use Rattle.std.specs.Prelude.{OnOk, IfOk, MatchResult, Result, Ok, Err, All, slice_index_or}
+use Rattle.std.proofs.Common.{◌≡◌, ℕ, zero, suc, ◌+◌, ◌-◌, ◌<◌, ◌≤◌, ◌^◌, Bool, cond, List, [], ◌∷◌, ◌++◌, map, flat_map, Option, None, Some, slice_get, refl, ap, sym, ◌∙◌, subst, arith, append_assoc, append-nil}
+use Rattle.std.specs.Prelude.{OnOk, IfOk, MatchResult, Result, Ok, Err, slice_index_or}
 use Rattle.std.specs.List.{range_with_len}
 use Rattle.std.proofs.lemmas.List.Elements.{All-tail}
 use Rattle.std.proofs.lemmas.List.FromFn.{map-range_with_len_more}
@@ -13,13 +13,11 @@ use Rattle.aqe_logical.specs.declared.plan.AggCall.{AggCall}
 use Rattle.aqe_logical.specs.declared.plan.SortKey.{SortKey}
 use Rattle.aqe_join_rows.specs.declared.join_keys.JoinKeys.{JoinKeys}
 use Rattle.aqe_physical.specs.declared.target.Target.{Target}
-use Rattle.aqe_physical.specs.declared.target.Target.TheVariants.{Hash, Range, Single, Broadcast}
 use Rattle.aqe_physical.specs.declared.target.StageKind.{StageKind}
-use Rattle.aqe_physical.specs.declared.target.StageKind.TheVariants as kind
 use Rattle.aqe_physical.specs.declared.target.JoinWay.{JoinWay}
-use Rattle.aqe_physical.specs.declared.plan.Plan.{Plan, OneRow, Scan, Nothing, Read, ReadBroadcast}
+use Rattle.aqe_physical.specs.declared.plan.Plan.{Plan, Read}
 use Rattle.aqe_physical.specs.declared.plan.Plan.TheVariants.{Filter, Project, Exchange, Join, PartialAgg, FinalAgg, Sort, LocalLimit, GlobalLimit, Union}
-use Rattle.aqe_physical.specs.Shapes.{kept, mapped, moved, matched, grouped, finished, ordered, cut_locally, cut_globally, both_of}
+use Rattle.aqe_physical.specs.Shapes.{moved, both_of}
 use Rattle.aqe_physical.specs.Nodes.{nodes}
 use Rattle.aqe_physical.proofs.Shapes.{is_kept, is_mapped, is_moved, is_matched, is_grouped, is_finished, is_ordered, is_cut_locally, is_cut_globally, is_both_of}
 use Rattle.aqe_base.specs.declared.memory.Memory.{Memory}

@@ -77,7 +77,12 @@ fn takes_right(way: JoinWay) -> bool
 
 /// Appends what part `k` of a plan reads.
 #[cycle(push_part)]
-pub(crate) fn push_part(found: &mut Needs, plan: &Plan, k: u32, counts: &[u32]) -> Result<(), Memory>
+pub(crate) fn push_part(
+    found: &mut Needs,
+    plan: &Plan,
+    k: u32,
+    counts: &[u32],
+) -> Result<(), Memory>
     requires { PartsFit plan.now }
     ensures { OnOk result (found.new ≡ found.old ++ part_reads counts.now plan.now k) }
 {
@@ -97,7 +102,10 @@ pub(crate) fn push_part(found: &mut Needs, plan: &Plan, k: u32, counts: &[u32]) 
             push_all_parts(found, child.get(), counts)
         }
         Plan::Join {
-            way, left, right, ..
+            way,
+            left,
+            right,
+            ..
         } => {
             push_side(found, left.get(), k, counts, takes_left(*way))?;
             push_side(found, right.get(), k, counts, takes_right(*way))

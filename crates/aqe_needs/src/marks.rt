@@ -63,10 +63,8 @@ pub fn needed(
     whole: &[bool],
 ) -> Result<Listing<bool>, Memory>
     requires { length whole.now ≡ length stages.now }
-    ensures {
-        (is_whole : ℕ → Bool) → whole.now ≡ map is_whole (range_with_len 0 (length stages.now)) →
-        IfOk result (λ marks. marks ≡ needed_stages is_whole plan.now (stages_of stages.now))
-    }
+    ensures { (is_whole : ℕ → Bool) → whole.now ≡ map is_whole (range_with_len 0 (length stages.now)) →
+        IfOk result (λ marks. marks ≡ needed_stages is_whole plan.now (stages_of stages.now)) }
 {
     let mut flags = read_by_plan(alloc, plan, stages.len())?;
     let mut marks = Vec::with_capacity(alloc, stages.len())?;

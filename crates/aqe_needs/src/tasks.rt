@@ -27,7 +27,13 @@ fn map_counts(alloc: Global, stages: &[StageNote]) -> Result<Listing<u32>, Memor
 }
 
 /// What a task of a stage reads.
-fn needs_of(alloc: Global, kind: &StageKind, body: &Plan, k: u32, counts: &[u32]) -> Result<Needs, Memory>
+fn needs_of(
+    alloc: Global,
+    kind: &StageKind,
+    body: &Plan,
+    k: u32,
+    counts: &[u32],
+) -> Result<Needs, Memory>
     requires { PartsFit body.now }
     ensures { IfOk result (λ needs. needs ≡ task_reads counts.now kind.now body.now k) }
 {

@@ -7,7 +7,7 @@ use Rattle.aqe_needs.proofs.marks.needed.Goals as goal
 
 pub stages-init : goal.stages-init
 stages-init c =
-    first (marked c.args.whole.now) c.args.plan.now c.args.stages.now c.in_ok-flags.flags c.in_ok-marks.marks.items _ search c.in_ok-flags.ensures c.in_ok-marks.ensures.items
+    first (marked c.args.whole.now) c.args.plan.now c.args.stages.now c.in_ok-flags.flags c.in_ok-marks.marks.items _ (search) c.in_ok-flags.ensures c.in_ok-marks.ensures.items
 
 pub note_at-stage-requires : goal.note_at-stage-requires
 note_at-stage-requires c = inside (marked c.args.whole.now) c.args.plan.now c.args.stages.now c.pop.result c.stages.flags c.pop.new.self c.stages.marks.items c.in-Some.is_read c.len-n.result c.stages.invariant c.pop.ensures c.in-Some.is c.len-n.ensures

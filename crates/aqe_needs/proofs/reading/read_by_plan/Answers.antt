@@ -1,4 +1,3 @@
-use Rattle.aqe_physical.specs.declared.plan.Plan.{Plan}
 use Rattle.aqe_journal.specs.Needed.{plan_reads}
 use Rattle.aqe_needs.proofs.Marked.{all_set}
 use Rattle.aqe_needs.proofs.reading.read_by_plan.Goals as goal
