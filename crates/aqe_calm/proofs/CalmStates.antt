@@ -2,7 +2,9 @@
 use Rattle.std.proofs.Common.{◌≡◌, refl, ap, sym, subst, ◌∙◌, ◌≤◌, ◌<◌, ◌+◌, zero, suc, ℕ, Bool, true, false, cond, not, ◌&&◌, List, [], ◌∷◌, ◌++◌, length, map, arith, Option, Some, None, slice_get, length-append, inl, inr}
 use Rattle.std.specs.Prelude.{All, ◌⊎◌}
 use Rattle.std.specs.List.{range_with_len}
-use Rattle.std.proofs.lemmas.Bool.{cases_Bool}
+use Rattle.std.proofs.lemmas.Bool.{cases_Bool, cases_lt, cases_eq}
+use Rattle.std.proofs.lemmas.Option.{slice_get_past}
+use Rattle.aqe_endings.proofs.Wholes.{get_more, get_last}
 use Rattle.std.proofs.lemmas.List.{append-nil}
 use Rattle.std.proofs.lemmas.List.Elements.{All-nil, All-cons, All-append, All-weaker, All-head}
 use Rattle.aqe_base.specs.declared.event.Event.{Event}
@@ -40,7 +42,7 @@ use Rattle.aqe_journal.specs.declared.record.VersionNote.{VersionNote}
 use Rattle.aqe_journal.proofs.StagesRun.{step, result_step, marked, happened, body_each, no_exchange}
 use Rattle.aqe_endings.proofs.Endings.{MayEnd, next_counts}
 use Rattle.aqe_calm.specs.Forms.{IsBuiltNode, IsCarriedOut}
-use Rattle.aqe_calm.specs.Calm.{CalmHistory, Calm, parts_over, IsAnswer}
+use Rattle.aqe_calm.specs.Calm.{CalmHistory, Calm, parts_over, IsAnswerAt}
 use Rattle.aqe_calm.proofs.BuiltPlans.{some_part, built_body, built_stays, built_kind}
 use Rattle.aqe_calm.proofs.Calm.{calm_marked, calm_added, calm_ended}
 use Rattle.aqe_bodies.proofs.MadeRuns.{first_of}
@@ -63,19 +65,26 @@ below_any n p h = All-weaker (ReadsBelowAt 0) (ReadsBelowAt n) (below_up 0 n (om
 first_stays : (asked : Asked) (first : Plan) (stages more : Stages) → ReadsBelow 0 first → parts_over asked (stages ++ more) first ≡ parts_over asked stages first
 first_stays asked first stages more unread = parts_stay asked.tables stages more first (below_any (length stages) first unread)
 
-answer_more : (asked : Asked) (first : Plan) (stages more : Stages) → ReadsBelow 0 first → (stage : Stage) → IsAnswer asked first stages stage → IsAnswer asked first (stages ++ more) stage
-answer_more asked first stages more unread stage h is =
-    let long = length-append stages more in
-    let a = h is in
-    (parts_stay asked.tables stages more stage.body a.1 ∙ a.0 ∙ sym (first_stays asked first stages more unread),
-     All-weaker (ReadsBelowAt (length stages)) (ReadsBelowAt (length (stages ++ more))) (below_up (length stages) (length (stages ++ more)) (omega (arith, long))) (nodes stage.body) a.1)
+below_more : (m n : ℕ) → m ≤ n → (p : Plan) → ReadsBelow m p → ReadsBelow n p
+below_more m n le p h = All-weaker (ReadsBelowAt m) (ReadsBelowAt n) (below_up m n le) (nodes p) h
 
-answers_more : (asked : Asked) (first : Plan) (stages : Stages) (stage : Stage) → ReadsBelow 0 first → All (IsAnswer asked first stages) stages → IsAnswer asked first (stages ++ stage ∷ []) stage →
-    All (IsAnswer asked first (stages ++ stage ∷ [])) (stages ++ stage ∷ [])
-answers_more asked first stages stage unread all one =
-    All-append (IsAnswer asked first (stages ++ stage ∷ [])) stages (stage ∷ [])
-    (All-weaker (IsAnswer asked first stages) (IsAnswer asked first (stages ++ stage ∷ [])) (answer_more asked first stages (stage ∷ []) unread) stages all)
-    (All-cons (IsAnswer asked first (stages ++ stage ∷ [])) stage [] one (All-nil (IsAnswer asked first (stages ++ stage ∷ []))))
+answers_more : (asked : Asked) (first : Plan) (stages : Stages) (stage : Stage) → ReadsBelow 0 first → ((s : ℕ) → IsAnswerAt asked first stages s (slice_get stages s)) →
+    IsAnswerAt asked first (stages ++ stage ∷ []) (length stages) (Some stage) → (s : ℕ) → IsAnswerAt asked first (stages ++ stage ∷ []) s (slice_get (stages ++ stage ∷ []) s)
+answers_more asked first stages stage unread all one s = elim (cases_lt s (length stages)) [
+  | inl lt ↦ subst (IsAnswerAt asked first (stages ++ stage ∷ []) s) (sym (get_more stages stage s lt)) (older (slice_get stages s) lt (all s))
+  | inr ge ↦ newer (cases_eq s (length stages)) ge
+]
+  where
+    older : (o : Option Stage) → s < length stages → IsAnswerAt asked first stages s o → IsAnswerAt asked first (stages ++ stage ∷ []) s o
+    older None lt a = tt
+    older (Some st) lt a = (a.0, λ is. parts_stay asked.tables stages (stage ∷ []) st.body (below_more s (length stages) (omega (arith, lt)) st.body a.0) ∙ a.1 is ∙ sym (first_stays asked first stages (stage ∷ []) unread))
+
+    newer : (s ≡ length stages) ⊎ (s ≡ length stages → ⊥) → length stages ≤ s → IsAnswerAt asked first (stages ++ stage ∷ []) s (slice_get (stages ++ stage ∷ []) s)
+    newer (inl is) ge = subst (λ k. IsAnswerAt asked first (stages ++ stage ∷ []) k (slice_get (stages ++ stage ∷ []) k)) (sym is)
+        (subst (IsAnswerAt asked first (stages ++ stage ∷ []) (length stages)) (sym (get_last stages stage)) one)
+    newer (inr is_not) ge =
+        let long = length-append stages (stage ∷ []) in
+        subst (IsAnswerAt asked first (stages ++ stage ∷ []) s) (sym (slice_get_past (stages ++ stage ∷ []) s (omega (arith, long, ge, is_not)))) tt
 
 carried_more : (stages : Stages) (stage : Stage) → All IsCarriedOut stages → IsCarriedOut stage → All IsCarriedOut (stages ++ stage ∷ [])
 carried_more stages stage all one = All-append IsCarriedOut stages (stage ∷ []) all (All-cons IsCarriedOut stage [] one (All-nil IsCarriedOut))
@@ -107,7 +116,7 @@ exchange_made asked first now making c at none =
       versions = c.versions;
       unread = c.unread;
       serves = made_keeps asked.tables now.stages number now.plan next making.stage refl c.steady.below m ∙ c.serves ∙ sym (first_stays asked first now.stages (making.stage ∷ []) c.unread);
-      answers = answers_more asked first now.stages making.stage c.unread c.answers (λ is. absurd (not_result number now.plan next making.stage m is));
+      answers = answers_more asked first now.stages making.stage c.unread c.answers (all_nodes (ReadsBelowAt (length now.stages)) making.stage.body (body_each (ReadsBelowAt (length now.stages)) number now.plan next making.stage m (each (ReadsBelowAt (length now.stages)) now.plan c.steady.below)), λ is. absurd (not_result number now.plan next making.stage m is));
       built = all_nodes IsBuiltNode next (built_stays number now.plan next making.stage m (each IsBuiltNode now.plan c.built));
       carried = carried_more now.stages making.stage c.carried (built_body making.stage.body body (each IsNoExchange making.stage.body none), built_kind number now.plan next making.stage m (each IsBuiltNode now.plan c.built), some);
       events = added now making some c.events;
@@ -123,14 +132,12 @@ result_made asked first now c none =
     let some = some_part now.plan (each IsBuiltNode now.plan c.built) in
     let stays : parts_over asked (now.stages ++ stage ∷ []) now.plan ≡ parts_over asked (now.stages ++ stage ∷ []) first =
         parts_stay asked.tables now.stages (stage ∷ []) now.plan c.steady.below ∙ c.serves ∙ sym (first_stays asked first now.stages (stage ∷ []) c.unread) in
-    let long = length-append now.stages (stage ∷ []) in
     record {
       steady = s;
       versions = c.versions;
       unread = c.unread;
       serves = ap (λ p. parts_over asked (now.stages ++ stage ∷ []) p) put ∙ stays;
-      answers = answers_more asked first now.stages stage c.unread c.answers (λ is. (stays, All-weaker (ReadsBelowAt (length now.stages)) (ReadsBelowAt (length (now.stages ++ stage ∷ [])))
-          (below_up (length now.stages) (length (now.stages ++ stage ∷ [])) (omega (arith, long))) (nodes now.plan) c.steady.below));
+      answers = answers_more asked first now.stages stage c.unread c.answers (c.steady.below, λ is. stays);
       built = subst (λ p. All IsBuiltNode (nodes p)) (sym put) c.built;
       carried = carried_more now.stages stage c.carried (built_body now.plan (each IsBuiltNode now.plan c.built) (each IsNoExchange now.plan none), refl, some);
       events = added now (result_of now.plan) some c.events;

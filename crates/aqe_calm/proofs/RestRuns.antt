@@ -32,7 +32,7 @@ use Rattle.aqe_journal.proofs.Born.{not_materialised}
 use Rattle.aqe_journal.proofs.StagesRun.{start, no_exchange}
 use Rattle.aqe_endings.proofs.Endings.{MayEnd, next_may_end}
 use Rattle.aqe_calm.specs.Forms.{IsBuiltNode}
-use Rattle.aqe_calm.specs.Calm.{Calm, IsAnswer}
+use Rattle.aqe_calm.specs.Calm.{Calm}
 use Rattle.aqe_calm.specs.Forms.{IsCarriedOut}
 use Rattle.aqe_calm.specs.Laws.{RestRunsAreCalm}
 use Rattle.aqe_calm.proofs.BuiltPlans.{built_first}
@@ -76,7 +76,7 @@ calm_begun asked first sound fits =
       versions = refl;
       unread = s.below;
       serves = refl;
-      answers = All-nil (IsAnswer asked first []);
+      answers = λ s. tt;
       built = all_nodes IsBuiltNode first (built_first (ways_by_sizes asked.estimates [] (in_force asked.settings)) (partitions asked.settings) (files_of asked.estimates) sound.parts asked.query first fits.0.0 fits.0.1
           (logical_walk.each IsPlannedYet asked.query sound.planned) (logical_walk.each IsOfAQuery asked.query sound.closed));
       carried = All-nil IsCarriedOut;

@@ -1,5 +1,5 @@
 -- What holds of a run in which nothing but the rest ends tasks: words of its proof.
-use Rattle.std.specs.Prelude.{ℕ, ◌≡◌, ◌≤◌, true, false, List, [], ◌∷◌, ◌++◌, length, is_some, All}
+use Rattle.std.specs.Prelude.{ℕ, ◌≡◌, ◌≤◌, true, false, List, [], ◌∷◌, ◌++◌, length, is_some, slice_get, Option, Some, None, All}
 use Rattle.aqe_logical.specs.Answers.{Row}
 use Rattle.aqe_physical.specs.declared.plan.Plan.{Plan}
 use Rattle.aqe_physical.specs.Nodes.{nodes}
@@ -31,16 +31,20 @@ pub record CalmHistory (stages : Stages) (h : List Step) : Type 0 where
 abbrev pub parts_over : Asked → Stages → Plan → List (List Row)
 parts_over asked stages plan = parts asked.tables (given_by asked.tables stages) plan
 
--- a result stage gives the parts of the first plan
-abbrev pub IsAnswer : Asked → Plan → Stages → Stage → Type 0
-IsAnswer asked first stages stage = is_result stage.kind ≡ true → (parts_over asked stages stage.body ≡ parts_over asked stages first) × ReadsBelow (length stages) stage.body
+-- What holds of the stage with a number, if there is one: it reads stages before it, and a result gives the parts of the first plan.
+abbrev pub IsAnswerAt : Asked → Plan → Stages → ℕ → Option Stage → Type 0
+IsAnswerAt asked first stages s None = Unit {0}
+IsAnswerAt asked first stages s (Some stage) =
+    ReadsBelow s stage.body × (is_result stage.kind ≡ true → parts_over asked stages stage.body ≡ parts_over asked stages first)
 
+-- What holds of a state of such a run: the query has its first version alone; the current plan, which reads stages that are there and has
+-- the forms that are carried out so far, gives the parts of the first one, which reads no stage.
 pub record Calm (asked : Asked) (first : Plan) (now : State) : Type 0 where
   pub steady : Steady asked now
   pub versions : now.versions ≡ record { position = 0; logical = asked.query; plan = first } ∷ []
   pub unread : ReadsBelow 0 first
   pub serves : parts_over asked now.stages now.plan ≡ parts_over asked now.stages first
-  pub answers : All (IsAnswer asked first now.stages) now.stages
+  pub answers : (s : ℕ) → IsAnswerAt asked first now.stages s (slice_get now.stages s)
   pub built : All IsBuiltNode (nodes now.plan)
   pub carried : All IsCarriedOut now.stages
   pub events : CalmHistory now.stages (history now)

@@ -107,12 +107,12 @@ not_done h s t none = elim (cases_Bool (done h s t)) as (λ w. done h s t ≡ fa
     is_false clash = cc (clash)
 
 -- what a list says of an item does not change where another is added behind it
-get_more : {X : Type 0} (xs : List X) (x : X) (i : ℕ) → i < length xs → slice_get (xs ++ x ∷ []) i ≡ slice_get xs i
+pub get_more : {X : Type 0} (xs : List X) (x : X) (i : ℕ) → i < length xs → slice_get (xs ++ x ∷ []) i ≡ slice_get xs i
 get_more [] x i lt = absurd (omega (arith, lt))
 get_more (y ∷ ys) x zero lt = refl
 get_more (y ∷ ys) x (suc i) lt = get_more ys x i (omega (arith, lt))
 
-get_last : {X : Type 0} (xs : List X) (x : X) → slice_get (xs ++ x ∷ []) (length xs) ≡ Some x
+pub get_last : {X : Type 0} (xs : List X) (x : X) → slice_get (xs ++ x ∷ []) (length xs) ≡ Some x
 get_last [] x = refl
 get_last (y ∷ ys) x = get_last ys x
 

@@ -357,7 +357,7 @@ steady asked now sound (begun plan first) =
     marked asked (settled (first_state asked.query plan)) (settle asked (first_state asked.query plan) (start asked plan sound first))
 steady asked now sound (one_on before next event far r n t) = taken asked before next event t (steady asked before sound far)
 
-carried_out : (tables : Tables) (stages : Stages) (stage : Stage) → Kept tables stages stage → CanBeCarriedOut tables stages stage
+pub carried_out : (tables : Tables) (stages : Stages) (stage : Stage) → Kept tables stages stage → CanBeCarriedOut tables stages stage
 carried_out tables stages stage k = (
   first_of (λ body. WithoutExchange body → Runnable tables stages body) stage.body
       (each (λ body. WithoutExchange body → Runnable tables stages body) stage.body (bodies_run tables stages stage.body k.runs)) k.none,

@@ -1,0 +1,77 @@
+-- The result stage of a calm state has the parts of the first plan, each as one cell.
+use Rattle.std.proofs.Common.{◌≡◌, refl, ap, sym, subst, ◌∙◌, ◌≤◌, ◌<◌, ◌+◌, zero, suc, ℕ, Bool, true, false, List, [], ◌∷◌, ◌++◌, length, map, arith, Option, Some, None, slice_get, slice_index_or, length-append}
+use Rattle.std.specs.Prelude.{All}
+use Rattle.std.specs.Option.{unwrap_or}
+use Rattle.std.proofs.lemmas.List.{append_assoc}
+use Rattle.std.proofs.lemmas.List.Elements.{All-weaker}
+use Rattle.aqe_logical.specs.Answers.{Row, Tables}
+use Rattle.aqe_physical.specs.declared.plan.Plan.{Plan}
+use Rattle.aqe_physical.specs.declared.target.StageKind.{StageKind}
+use Rattle.aqe_physical.specs.declared.target.StageKind.TheVariants as kind
+use Rattle.aqe_physical.specs.Nodes.{nodes}
+use Rattle.aqe_stages.specs.Stages.{Stage, Stages, Given, output_of}
+use Rattle.aqe_stages.specs.Parts.{parts, given_by, cells, output}
+use Rattle.aqe_stages.specs.Places.{cells_of}
+use Rattle.aqe_stages.specs.Reads.{ReadsBelow}
+use Rattle.aqe_stages.proofs.Later.{given_count, given_one_more, cells_stay, parts_stay}
+use Rattle.aqe_journal.specs.Asked.{Asked}
+use Rattle.aqe_journal.specs.Needed.{is_result}
+use Rattle.aqe_journal.specs.States.{State}
+use Rattle.aqe_calm.specs.Calm.{Calm, parts_over, IsAnswerAt}
+
+-- the stages before one with a number, and those behind it
+record Around (stages : Stages) (s : ℕ) (stage : Stage) : Type 0 where
+  before : Stages
+  behind : Stages
+  is : stages ≡ before ++ stage ∷ behind
+  many : length before ≡ s
+
+around : (stages : Stages) (s : ℕ) (stage : Stage) → slice_get stages s ≡ Some stage → Around stages s stage
+around [] s stage e = absurd (none e)
+  where
+    none : None ≡ Some stage → ⊥
+    none n = cc (n)
+around (x ∷ xs) zero stage e = record { before = []; behind = xs; is = ap (λ y. y ∷ xs) (some_one x stage e); many = refl }
+  where
+    some_one : (a b : Stage) → Some a ≡ Some b → a ≡ b
+    some_one a b h = ap (λ o. unwrap_or o a) h
+around (x ∷ xs) (suc s) stage e =
+    let r = around xs s stage e in
+    record { before = x ∷ r.before; behind = r.behind; is = ap (λ ys. x ∷ ys) r.is; many = ap suc r.many }
+
+last_or : {X : Type 0} (xs : List X) (x d : X) → slice_index_or (xs ++ x ∷ []) (length xs) d ≡ x
+last_or [] x d = refl
+last_or (y ∷ ys) x d = last_or ys x d
+
+single_cells : (k : StageKind) → is_result k ≡ true → (given : Given) (all : List (List Row)) (ps : List (List Row)) → map (cells_of given k all) ps ≡ map (λ part. part ∷ []) ps
+single_cells kind.Result h given all ps = refl
+single_cells (kind.Shuffle to) h given all ps = absurd (clash h)
+  where
+    clash : false ≡ true → ⊥
+    clash c = cc (c)
+single_cells kind.Broadcast h given all ps = refl
+single_cells (kind.Sample keys) h given all ps = absurd (clash h)
+  where
+    clash : false ≡ true → ⊥
+    clash c = cc (c)
+
+pub result_cells : (asked : Asked) (first : Plan) (now : State) (s : ℕ) (stage : Stage) → Calm asked first now → slice_get now.stages s ≡ Some stage → is_result stage.kind ≡ true →
+    cells asked.tables now.stages s ≡ map (λ part. part ∷ []) (parts_over asked now.stages first)
+result_cells asked first now s stage c e result =
+    let r = around now.stages s stage e in
+    let front = r.before ++ stage ∷ [] in
+    let split : now.stages ≡ front ++ r.behind = r.is ∙ sym (append_assoc r.before (stage ∷ []) r.behind) in
+    let long = length-append r.before (stage ∷ []) in
+    let many = r.many in
+    let lt : s < length front = omega (arith, long, many) in
+    let a = subst (IsAnswerAt asked first now.stages s) e (c.answers s) in
+    let below : ReadsBelow (length r.before) stage.body = subst (λ n. ReadsBelow n stage.body) (sym r.many) a.0 in
+    let g = given_by asked.tables r.before in
+    let body = parts asked.tables g stage.body in
+    let same : parts_over asked now.stages stage.body ≡ body = ap (λ st. parts_over asked st stage.body) r.is ∙ parts_stay asked.tables r.before (stage ∷ r.behind) stage.body below in
+    ap (λ st. cells asked.tables st s) split ∙ cells_stay asked.tables front r.behind s lt
+    ∙ ap (λ given. output_of given s) (given_one_more asked.tables r.before stage)
+    ∙ ap (λ n. slice_index_or (g ++ output asked.tables g stage ∷ []) n []) (sym (given_count asked.tables r.before ∙ r.many))
+    ∙ last_or g (output asked.tables g stage) []
+    ∙ single_cells stage.kind result g body body
+    ∙ ap (map (λ part. part ∷ [])) (sym same ∙ a.1 result)
