@@ -17,7 +17,7 @@ use Rattle.aqe_rules.specs.Outcomes.{Outcome, upon, each, if_any}
 use Rattle.aqe_rules.specs.Operations as operation
 use Rattle.aqe_rules.specs.declared.typed.Typed.{Typed}
 use Rattle.aqe_rules.specs.Readings.{Place, Reading, readings, arm_value}
-use Rattle.aqe_rules.specs.Faults.{Fails}
+use Rattle.aqe_rules.specs.Faults.{Fails, Says}
 use Rattle.aqe_rules.specs.Trees.{made_of, made_of_and, made_of_not, made_of_predicate, made_of_test, made_of_comparison, made_of_sum, made_of_product, made_of_sign, made_of_primary, made_of_arm}
 
 -- the trees of each level
@@ -92,3 +92,13 @@ case operand arms otherwise = upon operand (λ a. upon arms (λ all. upon otherw
 -- what a call that reads several says
 abbrev pub SaysAll : {T Z : Type 0} → Result (Vec T Z) AnalysisFault → Outcome (List T) → Type 0
 SaysAll result outcome = MatchResult result (λ all. outcome ≡ Ok all.items) (λ f. Fails f outcome)
+
+-- what CASE says upon its parts, whatever these say, and a test upon the value that it asks about
+abbrev pub SaysCase : {Z : Type 0} → Result (Option Typed) AnalysisFault → Result (Vec (Typed × Typed) Z) AnalysisFault → Result (Option Typed) AnalysisFault → Result Typed AnalysisFault → Type 0
+SaysCase operand arms otherwise result =
+    (o : Outcome (Option Typed)) (p : Outcome (List (Typed × Typed))) (q : Outcome (Option Typed)) →
+    Says operand o → SaysAll arms p → Says otherwise q → Says result (case o p q)
+
+abbrev pub SaysTest : Test → Place → Result Typed AnalysisFault → Result Typed AnalysisFault → Type 0
+SaysTest test place value result =
+    (a : Place → Reading) → Says value (a place).value → Says result (value_of_test test a place)

@@ -6,7 +6,7 @@ ghost use Rattle.aqe_rules.specs.Readings as readings;
 ghost use Rattle.aqe_rules.specs.Selects.{with_aliases};
 ghost use Rattle.aqe_rules.specs.Faults.{Says};
 ghost use Rattle.aqe_typing.specs.Calls.{calls_seen};
-ghost use Rattle.aqe_typing.specs.Aliases.{under_alias, under_aliases};
+ghost use Rattle.aqe_typing.specs.Aliases.{under_alias, under_aliases, IsFirst};
 
 use crate::calls::Call;
 use crate::levels::or;
@@ -68,8 +68,7 @@ fn value_named<'a>(name: &Text, item: &'a ItemTree) -> Option<&'a OrTree>
 /// What stands under the first alias that has the name, and the items behind it.
 fn first_named<'a>(name: &Text, list: &'a [ItemTree]) -> Option<(&'a OrTree, &'a [ItemTree])>
     ensures { MatchOption result (under_aliases name.now list.now ≡ [])
-        (λ found. under_aliases name.now list.now
-        ≡ found.0.now ∷ under_aliases name.now found.1.now) }
+        (λ found. IsFirst name.now list.now found.0.now found.1.now) }
 {
     let mut rest = list;
     'items: while let Some((item, more)) = rest.split_first() {

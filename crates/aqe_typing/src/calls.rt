@@ -29,8 +29,8 @@ pub struct Call {
     pub kind: SqlType,
 }
 
-/// The aggregate function with the name.
-pub(crate) fn aggregate_named(name: &Text) -> Option<AggFun>
+/// The aggregate function with the name, where ASCII case does not count; none where no aggregate function has it.
+pub fn aggregate_named(name: &Text) -> Option<AggFun>
     ensures { result ≡ readings.aggregate_named name.now }
 {
     let name = name.as_str();
@@ -47,8 +47,8 @@ pub(crate) fn aggregate_named(name: &Text) -> Option<AggFun>
     }
 }
 
-/// Whether the aggregate function takes values of the type.
-fn takes(fun: AggFun, kind: SqlType) -> bool
+/// Whether the aggregate function takes values of the type: sum wants a number, the others take each type.
+pub fn takes(fun: AggFun, kind: SqlType) -> bool
     ensures { result ≡ readings.takes fun kind }
 {
     match fun {
@@ -107,8 +107,8 @@ fn gives(fun: AggFun, kind: SqlType) -> SqlType
     }
 }
 
-/// The call of the function with the argument.
-fn call_of(fun: AggFun, argument: Typed) -> Call
+/// The call of the function with the argument, and the type of its values.
+pub fn call_of(fun: AggFun, argument: Typed) -> Call
     ensures { call_seen result ≡ readings.call_of fun argument }
 {
     Call {
@@ -186,7 +186,14 @@ fn aggregate_call(
     value_of_call(alloc, name, &call, columns, calls)
 }
 
-/// `count(*)`, which counts a literal that is not NULL.
+/// What `count(*)` counts: a literal that is not NULL.
+pub fn counted() -> Typed
+    ensures { result ≡ readings.counted }
+{
+    number(false, 1, false)
+}
+
+/// `count(*)`
 pub(crate) fn counted_rows(
     alloc: Global,
     columns: usize,
@@ -194,14 +201,7 @@ pub(crate) fn counted_rows(
 ) -> Result<Typed, AnalysisFault>
     ensures { Says result (spec.aggregate_call (codes "count") Count columns (calls_seen calls.now) readings.counted) }
 {
-    aggregate_call(
-        alloc,
-        "count",
-        AggFun::Count,
-        number(false, 1, false),
-        columns,
-        calls,
-    )
+    aggregate_call(alloc, "count", AggFun::Count, counted(), columns, calls)
 }
 
 /// The aggregate calls that may stand in the arguments of a call.

@@ -1,12 +1,8 @@
 //! CASE, over what its parts came to.
 
-ghost use Rattle.std.specs.Prelude.{◌≡◌, List, Option};
-ghost use Rattle.aqe_rules.specs.Outcomes.{Outcome};
 ghost use Rattle.aqe_rules.specs.Operations as operation;
-ghost use Rattle.aqe_rules.specs.declared.typed.Typed.{Typed};
 ghost use Rattle.aqe_rules.specs.Faults.{Says};
-ghost use Rattle.aqe_typing.specs.Values as spec;
-ghost use Rattle.aqe_typing.specs.Values.{SaysAll};
+ghost use Rattle.aqe_typing.specs.Values.{SaysCase};
 
 use aqe_rules::{AnalysisFault, Typed, case_of, switch};
 use std::alloc::Global;
@@ -19,9 +15,7 @@ pub(crate) fn case(
     arms: Result<Vec<(Typed, Typed)>, AnalysisFault>,
     otherwise: Result<Option<Typed>, AnalysisFault>,
 ) -> Result<Typed, AnalysisFault>
-    ensures { (o : Outcome (Option Typed)) (p : Outcome (List (Typed × Typed)))
-        (q : Outcome (Option Typed)) → Says operand o → SaysAll arms p → Says otherwise q
-        → Says result (spec.case o p q) }
+    ensures { SaysCase operand arms otherwise result }
 {
     chosen(alloc, operand?, arms?, otherwise?)
 }

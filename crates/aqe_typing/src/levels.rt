@@ -1,10 +1,9 @@
 //! Expressions, level by level: each operand is read, and then what stands on it.
 
 ghost use Rattle.std.specs.Prelude.{◌≡◌};
-ghost use Rattle.aqe_rules.specs.Readings.{Place, Reading};
 ghost use Rattle.aqe_rules.specs.Faults.{Says};
 ghost use Rattle.aqe_typing.specs.Calls.{at_calls};
-ghost use Rattle.aqe_typing.specs.Values.{value_of_or, value_of_and, value_of_not, value_of_predicate, value_of_test, value_of_comparison, value_of_sum, value_of_product, value_of_sign, value_of_primary, value_of_arm, values_of, values_of_arms, value_if_any, SaysAll};
+ghost use Rattle.aqe_typing.specs.Values.{value_of_or, value_of_and, value_of_not, value_of_predicate, value_of_comparison, value_of_sum, value_of_product, value_of_sign, value_of_primary, value_of_arm, values_of, values_of_arms, value_if_any, SaysAll, SaysTest};
 
 use crate::calls::{Call, aggregate_named, called, calls_within, counted_rows};
 use crate::cases::case;
@@ -111,8 +110,7 @@ fn test<N: Names>(
     names: &N,
     calls: &[Call],
 ) -> Result<Typed, AnalysisFault>
-    ensures { (a : Place → Reading) → Says value (a (at_calls (N.place names.now) calls.now)).value
-        → Says result (value_of_test tree.now a (at_calls (N.place names.now) calls.now)) }
+    ensures { SaysTest tree.now (at_calls (N.place names.now) calls.now) value result }
 {
     match tree {
         Test::Plain => value,

@@ -12,6 +12,6 @@ mod place;
 mod steps;
 mod value;
 
-pub use calls::Call;
+pub use calls::{Call, aggregate_named, call_of, counted, takes};
 pub use place::Place;
 pub use value::{is_column, value_at, value_over, value_with_aliases};
