@@ -41,11 +41,28 @@ items-push : (is : List FromItem) (i : FromItem) → items_seen (is ++ i ∷ [])
 items-push [] i = refl
 items-push (j ∷ is) i = ap (λ x. item_seen j ∷ x) (items-push is i)
 
--- the columns of one item more
-pub columns-push : (is : List FromItem) (i : FromItem) (before after : List Named) → before ≡ columns_of (items_seen is) → after ≡ before ++ numbered i.name (length before) i.columns →
-    after ≡ columns_of (items_seen (is ++ i ∷ []))
-columns-push is i before after e h =
-    rw (h, e, items-push is i) (sym (columns_from-last 0 (length (columns_of (items_seen is))) (items_seen is) (item_seen i) (omega arith)))
+-- the columns of one item more, behind those before
+pub columns-push : (old : List Named) (is : List FromItem) (i : FromItem) (before after : List Named) → before ≡ old ++ columns_from (length old) (items_seen is) →
+    after ≡ before ++ numbered i.name (length before) i.columns → after ≡ old ++ columns_from (length old) (items_seen (is ++ i ∷ []))
+columns-push old is i before after e h =
+    let size : length before ≡ length old + length (columns_from (length old) (items_seen is)) = rw e length-append in
+    rw (h, items-push is i, columns_from-last (length old) (length before) (items_seen is) (item_seen i) size)
+    (ap (λ (x : List Named). x ++ numbered i.name (length before) i.columns) e ∙
+    append_assoc old (columns_from (length old) (items_seen is)) (numbered i.name (length before) i.columns))
+
+-- the columns of two lists of items
+columns_from-append : (n : ℕ) (m : ℕ) (is js : List Item) → m ≡ n + length (columns_from n is) → columns_from n (is ++ js) ≡ columns_from n is ++ columns_from m js
+columns_from-append n m [] js e = let k : m ≡ n = omega (arith, e) in rw k refl
+columns_from-append n m (i ∷ is) js e =
+    let len : length (columns_from n (i ∷ is)) ≡ length i.columns + length (columns_from (n + length i.columns) is) = rw (length-append, numbered-length) refl in
+    rw (columns_from-append (n + length i.columns) m is js (omega (arith, e, len)))
+    (sym (append_assoc (numbered i.name n i.columns) (columns_from (n + length i.columns) is) (columns_from m js)))
+
+pub both_sides : (left right : List Item) (none before after : List Named) → none ≡ [] → before ≡ none ++ columns_from (length none) left → after ≡ before ++ columns_from (length before) right →
+    after ≡ columns_of (left ++ right)
+both_sides left right none before after z e h =
+    let first : before ≡ columns_from 0 left = e ∙ ap (λ (x : List Named). x ++ columns_from (length x) left) z in
+    rw (h, first) (sym (columns_from-append 0 (length (columns_from 0 left)) left right (omega arith)))
 
 -- the same, at the step of a loop
 pub numbered-step : (before : List Named) (owner : Option (List ℕ)) (fs : List Field) (i : ℕ) (f : Field) (all : List Named) (c : Named) →
@@ -54,6 +71,7 @@ pub numbered-step : (before : List Named) (owner : Option (List ℕ)) (fs : List
 numbered-step before owner fs i f all c lt at e is =
     rw (take_more fs i f lt, ← at) (numbered-push before owner (take i fs) f all c e is)
 
-pub columns-step : (is : List FromItem) (k : ℕ) (i : FromItem) (before after : List Named) → k < length is → i ≡ get_or is k i → before ≡ columns_of (items_seen (take k is)) →
-    after ≡ before ++ numbered i.name (length before) i.columns → after ≡ columns_of (items_seen (take (k + 1) is))
-columns-step is k i before after lt at e h = rw (take_more is k i lt, ← at) (columns-push (take k is) i before after e h)
+pub columns-step : (old : List Named) (is : List FromItem) (k : ℕ) (i : FromItem) (before after : List Named) → k < length is → i ≡ get_or is k i →
+    before ≡ old ++ columns_from (length old) (items_seen (take k is)) → after ≡ before ++ numbered i.name (length before) i.columns →
+    after ≡ old ++ columns_from (length old) (items_seen (take (k + 1) is))
+columns-step old is k i before after lt at e h = rw (take_more is k i lt, ← at) (columns-push old (take k is) i before after e h)

@@ -72,13 +72,40 @@ fn append_columns(
     Ok(())
 }
 
+/// Appends the columns of items, numbered on from those before.
+fn append_items(
+    alloc: Global,
+    columns: &mut Listing<Named>,
+    items: &[FromItem],
+) -> Result<(), AnalysisFault>
+    ensures { Gives result (λ _. columns.new ≡ columns.old ++ spec.columns_from (length columns.old) (items_seen items.now)) }
+{
+    'items: for item in items {
+        append_columns(alloc, columns, item)?;
+    }
+    Ok(())
+}
+
 /// The columns that FROM shows, from left to right.
 pub fn columns_of(alloc: Global, items: &[FromItem]) -> Result<Listing<Named>, AnalysisFault>
     ensures { Gives result (λ all. all ≡ spec.columns_of (items_seen items.now)) }
 {
     let mut columns = Listing::new(alloc);
-    'items: for item in items {
-        append_columns(alloc, &mut columns, item)?;
-    }
+    append_items(alloc, &mut columns, items)?;
+    Ok(columns)
+}
+
+/// The columns of the items of both sides of a join, from left to right.
+#[tactic(auto, using(crate::proofs::ColumnLists::both_sides))]
+pub(crate) fn columns_of_both(
+    alloc: Global,
+    left: &[FromItem],
+    right: &[FromItem],
+) -> Result<Listing<Named>, AnalysisFault>
+    ensures { Gives result (λ all. all ≡ spec.columns_of (items_seen left.now ++ items_seen right.now)) }
+{
+    let mut columns = Listing::new(alloc);
+    append_items(alloc, &mut columns, left)?;
+    append_items(alloc, &mut columns, right)?;
     Ok(columns)
 }
