@@ -1,6 +1,7 @@
 //! Joins of two sides of FROM.
 
-ghost use Rattle.std.specs.Prelude.{◌≡◌, ◌++◌, Err, MatchResult};
+ghost use Rattle.std.specs.Prelude.{◌≡◌, ◌++◌, None, Err, MatchResult};
+ghost use Rattle.aqe_base.specs.declared.join_kind.JoinKind.TheVariants.{Cross};
 ghost use Rattle.aqe_logical.specs.Shapes as shapes;
 ghost use Rattle.aqe_rules.specs.Faults.{Says};
 ghost use Rattle.aqe_rules.specs.Limits as limits;
@@ -127,8 +128,6 @@ fn joined_sides(
 }
 
 /// A source joined to what stands before it, where both are there; else the fault of the first that is not.
-///
-/// A comma is a cross join without ON.
 pub fn join_next(
     alloc: Global,
     kind: JoinKind,
@@ -140,4 +139,16 @@ pub fn join_next(
         → SaysSeen from_seen result (upon o (λ l. upon p (spec.join kind on.now l))) }
 {
     joined_sides(alloc, kind, on, both_of(left, right))
+}
+
+/// A source behind a comma, joined to what stands before it: each row of the one with each of the other.
+pub fn cross_next(
+    alloc: Global,
+    left: Result<FromPlan, AnalysisFault>,
+    right: Result<FromPlan, AnalysisFault>,
+) -> Result<FromPlan, AnalysisFault>
+    ensures { (o : Outcome From) → (p : Outcome From) → SaysSeen from_seen left o → SaysSeen from_seen right p
+        → SaysSeen from_seen result (upon o (λ l. upon p (spec.join Cross None l))) }
+{
+    join_next(alloc, JoinKind::Cross, &None, left, right)
 }

@@ -9,7 +9,7 @@ mod scope;
 mod source;
 
 pub use conditions::{condition, kept};
-pub use joins::join_next;
+pub use joins::{cross_next, join_next};
 pub use limits::{kept_within, within_limits};
 pub use pairs::both_of;
 pub use scope::{FromItem, FromPlan, columns_of, copy_name};
