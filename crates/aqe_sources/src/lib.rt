@@ -10,7 +10,7 @@ mod source;
 
 pub use conditions::{condition, kept};
 pub use joins::{cross_next, join_next};
-pub use limits::{kept_within, within_limits};
+pub use limits::within_limits;
 pub use pairs::both_of;
 pub use scope::{FromItem, FromPlan, columns_of, copy_name};
 pub use source::{one_row, query_source, table_source};

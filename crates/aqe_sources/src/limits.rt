@@ -4,8 +4,6 @@ ghost use Rattle.std.specs.Prelude.{ℕ, ◌+◌, max};
 ghost use Rattle.aqe_logical.specs.Columns.{width};
 ghost use Rattle.aqe_rules.specs.Limits.{most_columns, within_limits};
 ghost use Rattle.aqe_rules.specs.Faults.{Says};
-ghost use Rattle.aqe_rules.specs.Outcomes.{Outcome, upon};
-ghost use Rattle.aqe_logical.specs.declared.plan.Logical.{Logical};
 ghost use Rattle.aqe_sources.specs.Widths.{IsWithin, IsJoined, shown_width};
 
 use aqe_base::JoinKind;
@@ -147,12 +145,4 @@ pub fn within_limits(plan: Logical) -> Result<Logical, AnalysisFault>
         return Err(AnalysisFault::TooManyColumns);
     }
     Ok(plan)
-}
-
-/// The plan, where it is not refused and keeps both limits.
-pub fn kept_within(plan: Result<Logical, AnalysisFault>) -> Result<Logical, AnalysisFault>
-    ensures { (outcome : Outcome Logical) → Says plan outcome → Says result (upon outcome within_limits) }
-{
-    let plan = plan?;
-    within_limits(plan)
 }
