@@ -45,7 +45,7 @@ items-push (j ∷ is) i = ap (λ x. item_seen j ∷ x) (items-push is i)
 pub columns-push : (old : List Named) (is : List FromItem) (i : FromItem) (before after : List Named) → before ≡ old ++ columns_from (length old) (items_seen is) →
     after ≡ before ++ numbered i.name (length before) i.columns → after ≡ old ++ columns_from (length old) (items_seen (is ++ i ∷ []))
 columns-push old is i before after e h =
-    let size : length before ≡ length old + length (columns_from (length old) (items_seen is)) = rw e length-append in
+    let size : length before ≡ length old + length (columns_from (length old) (items_seen is)) = rw e (rw length-append refl) in
     rw (h, items-push is i, columns_from-last (length old) (length before) (items_seen is) (item_seen i) size)
     (ap (λ (x : List Named). x ++ numbered i.name (length before) i.columns) e ∙
     append_assoc old (columns_from (length old) (items_seen is)) (numbered i.name (length before) i.columns))

@@ -1,10 +1,12 @@
 -- WHERE and joins, over what their parts came to.
-use Rattle.std.proofs.Common.{◌≡◌, List, ◌++◌, Option, Some, Result, Ok, Err, refl, sym, subst}
+use Rattle.std.proofs.Common.{◌≡◌, List, ◌++◌, Option, Some, Result, Ok, Err, refl, sym, subst, ◌∙◌}
 use Rattle.std.specs.Prelude.{MatchResult}
 use Rattle.aqe_base.specs.declared.join_kind.JoinKind.{JoinKind}
 use Rattle.aqe_expr.specs.declared.expr.Expr.{Expr}
 use Rattle.aqe_logical.specs.declared.plan.Logical.{Logical}
+use Rattle.aqe_logical.specs.declared.plan.Logical.TheVariants.{Filter, Join}
 use Rattle.aqe_logical.specs.Shapes.{filtered, joined}
+use Rattle.aqe_logical.proofs.Shapes.{is_filtered, is_joined}
 use Rattle.aqe_trees.specs.declared.expression.OrTree.{OrTree}
 use Rattle.aqe_rules.specs.declared.fault.AnalysisFault.{AnalysisFault}
 use Rattle.aqe_rules.specs.Faults.{Says}
@@ -19,6 +21,13 @@ use Rattle.aqe_sources.specs.declared.scope.FromPlan.{FromPlan}
 use Rattle.aqe_sources.specs.Given.{Gives}
 use Rattle.aqe_sources.specs.Pairs.{both_of, with_items}
 use Rattle.aqe_sources.specs.Seen.{items_seen, from_seen, SaysSeen}
+
+-- what a filter and a join are made as
+pub filtered_made : (c : Expr) (q p : Logical) → p ≡ Filter c q → p ≡ filtered c q
+filtered_made c q p e = e ∙ is_filtered c q
+
+pub joined_within : (kind : JoinKind) (c : Expr) (l r p : Logical) (result : Result Logical AnalysisFault) → p ≡ Join kind c l r → Says result (within_limits p) → Says result (within_limits (joined kind c l r))
+joined_within kind c l r p result e h = subst (λ (x : Logical). Says result (within_limits x)) (e ∙ is_joined kind c l r) h
 
 -- WHERE
 pub kept_says : (filter : Option OrTree) (tree : OrTree) (place : Place) (plan : Logical) (e : Result Expr AnalysisFault) (r : Result Logical AnalysisFault) → filter ≡ Some tree → Says e (condition tree place) →

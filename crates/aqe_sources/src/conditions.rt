@@ -33,6 +33,7 @@ pub fn condition(
 }
 
 /// The rows of the plan for which the condition holds, where both are there.
+#[tactic(auto, using(crate::proofs::JoinSteps::filtered_made))]
 fn filtered(
     alloc: Global,
     both: Result<(Expr, Logical), AnalysisFault>,

@@ -72,6 +72,7 @@ fn appended(
 }
 
 /// The join of two plans upon a condition, where that is there.
+#[tactic(auto, using(crate::proofs::JoinSteps::joined_within))]
 fn joined(
     alloc: Global,
     kind: JoinKind,
