@@ -42,7 +42,7 @@ upon_upon (Err check) f g = refl
 
 -- the plan of a join
 plan_says : (kind : JoinKind) (o : Outcome Expr) (e : Result Expr AnalysisFault) (l r : Logical) (a : Result Logical AnalysisFault) → Says e o →
-    MatchResult (both_of e (Ok (l, r))) (λ p. Says a (within_limits (joined kind p.0 p.1.0 p.1.1))) (λ f. a ≡ Err f) → Says a (upon o (λ c. within_limits (joined kind c l r)))
+    MatchResult (both_of {B = Logical × Logical} e (Ok (l, r))) (λ p. Says a (within_limits (joined kind p.0 p.1.0 p.1.1))) (λ f. a ≡ Err f) → Says a (upon o (λ c. within_limits (joined kind c l r)))
 plan_says kind o (Ok c) l r a h g = rw h g
 plan_says kind o (Err f) l r a h g = rw g (upon_fails f o (λ c. within_limits (joined kind c l r)) h)
 
@@ -54,7 +54,7 @@ items_say o (Err f) b shown h g = upon_fails f o (λ p. Ok (from_of p shown)) h
 
 -- the join of two sides
 pub join_says : (kind : JoinKind) (on : Option OrTree) (l r : From) (e : Result Expr AnalysisFault) (a : Result Logical AnalysisFault) (b : Result (List FromItem) AnalysisFault) →
-    Says e (join_condition on (l.items ++ r.items)) → MatchResult (both_of e (Ok (l.plan, r.plan))) (λ p. Says a (within_limits (joined kind p.0 p.1.0 p.1.1))) (λ f. a ≡ Err f) →
+    Says e (join_condition on (l.items ++ r.items)) → MatchResult (both_of {B = Logical × Logical} e (Ok (l.plan, r.plan))) (λ p. Says a (within_limits (joined kind p.0 p.1.0 p.1.1))) (λ f. a ≡ Err f) →
     Gives b (λ all. items_seen all ≡ joined_items kind l.items r.items) → SaysSeen from_seen (with_items (both_of a b)) (join kind on l r)
 join_says kind on l r e a b h g k =
     let o = join_condition on (l.items ++ r.items) in

@@ -32,8 +32,16 @@ pub fn condition(
     }
 }
 
-/// The rows of the plan for which the condition holds, where both are there.
+/// The rows of the plan for which the condition holds.
 #[tactic(auto, using(crate::proofs::JoinSteps::filtered_made))]
+fn filter(alloc: Global, condition: Expr, plan: Logical) -> Result<Logical, AnalysisFault>
+    ensures { Gives result (λ p. p ≡ shapes.filtered condition plan) }
+{
+    let plan = Logical::filter(alloc, condition, plan)?;
+    Ok(plan)
+}
+
+/// The same, where both are there.
 fn filtered(
     alloc: Global,
     both: Result<(Expr, Logical), AnalysisFault>,
@@ -41,8 +49,7 @@ fn filtered(
     ensures { MatchResult both (λ b. Gives result (λ p. p ≡ shapes.filtered b.0 b.1)) (λ f. result ≡ Err f) }
 {
     let (condition, plan) = both?;
-    let plan = Logical::filter(alloc, condition, plan)?;
-    Ok(plan)
+    filter(alloc, condition, plan)
 }
 
 /// The rows of the plan that WHERE keeps.
