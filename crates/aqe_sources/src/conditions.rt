@@ -33,7 +33,6 @@ pub fn condition(
 }
 
 /// The rows of the plan for which the condition holds.
-#[tactic(auto, using(crate::proofs::JoinSteps::filtered_made))]
 fn filter(alloc: Global, condition: Expr, plan: Logical) -> Result<Logical, AnalysisFault>
     ensures { Gives result (λ p. p ≡ shapes.filtered condition plan) }
 {

@@ -11,7 +11,7 @@ pub returns : goal.returns
 returns c =
     rw (c.with_items.ensures, c.both_of-both.ensures)
     (join_says c.args.kind c.args.on.now (from_seen c.args.left) (from_seen c.args.right) c.join_condition-condition.result c.joined-plan.result c.joined_items-shown.result
-    c.join_condition-condition.ensures
+    (rw (← c.slice.ensures, ← c.slice-2.ensures) c.join_condition-condition.ensures)
     (subst (λ (parts : _). MatchResult parts (λ p. Says c.joined-plan.result (within_limits (joined c.args.kind p.0 p.1.0 p.1.1))) (λ f. c.joined-plan.result ≡ Err f))
     c.both_of-parts.ensures c.joined-plan.ensures)
     c.joined_items-shown.ensures)
