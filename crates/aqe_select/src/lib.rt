@@ -4,10 +4,10 @@
 mod building;
 mod clauses;
 mod grouped;
+mod one_select;
 mod output_names;
 mod outputs;
 mod plans;
-mod select;
 
 pub use clauses::Clauses;
-pub use select::select;
+pub use one_select::select;

@@ -1,7 +1,7 @@
 use Rattle.std.proofs.Common.{rules}
 use Rattle.aqe_sources.specs.Seen.{from_seen}
 use Rattle.aqe_select.proofs.SelectSteps.{parts-say}
-use Rattle.aqe_select.proofs.select.parts.Goals as goal
+use Rattle.aqe_select.proofs.one_select.parts.Goals as goal
 
 pub returns : goal.returns
 returns c =
