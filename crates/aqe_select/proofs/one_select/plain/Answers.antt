@@ -9,7 +9,7 @@ use Rattle.aqe_typing.specs.Calls.{calls_seen}
 use Rattle.aqe_select.specs.Clauses.{selected_seen}
 use Rattle.aqe_sources.specs.Seen.{from_seen}
 use Rattle.aqe_select.proofs.SelectSteps.{select-made}
-use Rattle.aqe_select.proofs.one_select.select_over.Goals as goal
+use Rattle.aqe_select.proofs.one_select.plain.Goals as goal
 
 pub returns : goal.returns
 returns c =
