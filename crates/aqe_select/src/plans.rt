@@ -224,12 +224,7 @@ fn distinct_outputs(alloc: Global, outputs: Outputs, below: Logical) -> Result<L
 }
 
 /// The plan with the output columns alone, equal rows once where that is wanted.
-fn shown(
-    alloc: Global,
-    distinct: bool,
-    outputs: Outputs,
-    below: Logical,
-) -> Result<Logical, Memory>
+fn shown(alloc: Global, distinct: bool, outputs: Outputs, below: Logical) -> Result<Logical, Memory>
     ensures { IfOk result (λ p. p ≡ spec.distinct_if distinct (spec.fields_of (outputs_seen outputs))
         (spec.projected_to (outputs_seen outputs) below)) }
 {

@@ -86,7 +86,9 @@ fn joined(
 }
 
 /// A plan with its items, where both are there.
-fn with_items(both: Result<(Logical, Listing<FromItem>), AnalysisFault>) -> Result<FromPlan, AnalysisFault>
+fn with_items(
+    both: Result<(Logical, Listing<FromItem>), AnalysisFault>,
+) -> Result<FromPlan, AnalysisFault>
     ensures { result ≡ with_items both }
 {
     match both {
@@ -107,7 +109,10 @@ fn join(
 {
     let condition = join_condition(alloc, on, left.items.slice(), right.items.slice());
     let FromPlan { plan: first, items } = left;
-    let FromPlan { plan: second, items: more } = right;
+    let FromPlan {
+        plan: second,
+        items: more,
+    } = right;
     let parts = both_of(condition, Ok((first, second)));
     let plan = joined(alloc, kind, parts);
     let shown = joined_items(kind, items, more);

@@ -31,19 +31,21 @@ pub union-more-init : goal.union-more-init
 union-more-init t c =
     let tables = seen c.args.catalog.now in
     let p = c.union_parts.result in
-    let first = made_of_core analysis.rules p.0.now tables c.core_order.result.now in
-    (fold (core_more tables) first p.1.now,
-    begun (λ (q : Logical). q) (core_more tables) p.1.now first _ c.core-plan.ensures refl,
-    union-walk c.args.tree.now p.0.now p.1.now c.is_lone-lone.result c.core_order.result.now tables c.args.order.now c.union_parts.ensures c.is_lone-lone.ensures c.core_order.ensures)
+    let first = made_of_core analysis.rules p.0.now tables c.core_order.result.now in (
+      fold (core_more tables) first p.1.now,
+      begun (λ (q : Logical). q) (core_more tables) p.1.now first _ c.core-plan.ensures refl,
+      union-walk c.args.tree.now p.0.now p.1.now c.is_lone-lone.result c.core_order.result.now tables c.args.order.now c.union_parts.ensures c.is_lone-lone.ensures c.core_order.ensures,
+    )
 
 pub union-more-preserved : goal.union-more-preserved
 union-more-preserved t c =
     let tables = seen c.args.catalog.now in
-    let p = c.union_parts.result in
-    (c.more.invariant.0,
-    turned (λ (q : Logical). q) (core_more tables) p.1.now c.more.next-index c.next-item.result _ _ c.more-test.true c.next-item.is c.more.invariant.1
-    (λ o h. c.united_next-plan.ensures o (made_of_core analysis.rules c.next-item.result.1 tables []) h c.core.ensures),
-    c.more.invariant.2)
+    let p = c.union_parts.result in (
+      c.more.invariant.0,
+      turned (λ (q : Logical). q) (core_more tables) p.1.now c.more.next-index c.next-item.result _ _ c.more-test.true c.next-item.is c.more.invariant.1
+          (λ o h. c.united_next-plan.ensures o (made_of_core analysis.rules c.next-item.result.1 tables []) h c.core.ensures),
+      c.more.invariant.2,
+    )
 
 pub union-returns : goal.union-returns
 union-returns t c =
