@@ -135,12 +135,14 @@ fn groups_of(
 }
 
 /// The rows of the plan that HAVING keeps.
-#[tactic(auto, using(crate::proofs::PlanSteps::having_made))]
 fn filtered_by(alloc: Global, having: Option<Typed>, below: Logical) -> Result<Logical, Memory>
     ensures { IfOk result (λ p. p ≡ spec.filtered_by having below) }
 {
     match having {
-        Some(having) => Logical::filter(alloc, having.expr, below),
+        Some(having) => {
+            let plan = Logical::filter(alloc, having.expr, below)?;
+            Ok(plan)
+        }
         None => Ok(below),
     }
 }
