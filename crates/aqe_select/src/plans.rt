@@ -211,7 +211,8 @@ fn projected_to(alloc: Global, outputs: Outputs, below: Logical) -> Result<Logic
     let schema = schema_or_memory(fields);
     let items = expressions(alloc, outputs);
     let (items, (schema, below)) = both(items, both(schema, Ok(below)))?;
-    Logical::project(alloc, items, schema, below)
+    let plan = Logical::project(alloc, items, schema, below)?;
+    Ok(plan)
 }
 
 /// The same, equal rows once.
