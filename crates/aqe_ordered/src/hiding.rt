@@ -6,6 +6,7 @@ ghost use Rattle.aqe_rules.specs.Outcomes.{Outcome};
 ghost use Rattle.aqe_rules.specs.Plans as spec;
 ghost use Rattle.aqe_rules.specs.declared.typed.Typed.{Typed};
 ghost use Rattle.aqe_trees.specs.declared.expression.OrTree.{OrTree};
+ghost use Rattle.aqe_ordered.specs.Refusals.{unknown};
 
 use aqe_base::AnalysisKind;
 use aqe_looks::{Mention, first_missing};
@@ -30,6 +31,18 @@ pub struct ShownAlone<'a> {
     pub outputs: &'a [Named],
 }
 
+/// The refusal of what an expression mentions and no output column shows.
+#[tactic(auto, using(crate::proofs::HidingSteps::unknown_steps))]
+fn unknown(alloc: Global, mention: &Mention) -> Result<Typed, AnalysisFault>
+    ensures { Says result (unknown mention.now) }
+{
+    match mention {
+        Mention::Plain(name) => column_named(alloc, name, &[]),
+        Mention::OfItem(table, name) => column_of_item(alloc, table, name, &[]),
+        Mention::Aggregate(name) => Err(refused(alloc, AnalysisKind::NoSuchColumn, name)),
+    }
+}
+
 /// The refusal of the first thing that an expression mentions and no output column shows.
 #[tactic(auto, using(crate::proofs::HidingSteps::refusal_steps))]
 fn no_hidden(
@@ -40,9 +53,7 @@ fn no_hidden(
     ensures { Says result (spec.no_hidden outputs.now value.now) }
 {
     match first_missing(value, outputs) {
-        Some(Mention::Plain(name)) => column_named(alloc, name, &[]),
-        Some(Mention::OfItem(table, name)) => column_of_item(alloc, table, name, &[]),
-        Some(Mention::Aggregate(name)) => Err(refused(alloc, AnalysisKind::NoSuchColumn, name)),
+        Some(mention) => unknown(alloc, &mention),
         None => Err(refused(alloc, AnalysisKind::NoSuchColumn, "")),
     }
 }

@@ -23,6 +23,7 @@ fn sign(negative: bool) -> &'static str
 }
 
 /// The number in decimal.
+#[tactic(auto, using(crate::proofs::PositionSteps::sign_written))]
 fn written(alloc: Global, negative: bool, n: u64) -> Result<Text, Memory>
     ensures { IfOk result (λ text. text ≡ spec.written negative n) }
 {
@@ -60,6 +61,7 @@ fn column_at<'a>(negative: bool, n: u64, outputs: &'a [Named]) -> Option<&'a Nam
 }
 
 /// The value of the output column at a position.
+#[tactic(auto, using(crate::proofs::PositionSteps::position_steps))]
 pub(crate) fn at_position(
     alloc: Global,
     negative: bool,

@@ -26,7 +26,7 @@ pub(crate) enum Sorting {
 }
 
 /// Whether an expression is over the output columns.
-#[tactic(auto, using(crate::proofs::SortingSteps::over_steps))]
+#[tactic(auto, using(crate::proofs::HidingSteps::over_steps))]
 fn is_over(value: &OrTree, outputs: &[Named]) -> bool
     ensures { result ≡ spec.is_over outputs.now value.now }
 {

@@ -37,7 +37,6 @@ fn converted_column(
 }
 
 /// The columns of a side as values of these types.
-#[tactic(auto, using(crate::proofs::SideSteps::part_steps))]
 fn cast_columns(alloc: Global, kinds: &[SqlType], fields: &[Field]) -> Result<Exprs, Memory>
     ensures { IfOk result (λ items. items ≡ spec.cast_columns 0 kinds.now fields.now) }
 {
@@ -55,7 +54,6 @@ fn cast_columns(alloc: Global, kinds: &[SqlType], fields: &[Field]) -> Result<Ex
 }
 
 /// The fields of a side with these types.
-#[tactic(auto, using(crate::proofs::SideSteps::part_steps))]
 fn cast_fields(
     alloc: Global,
     kinds: &[SqlType],
