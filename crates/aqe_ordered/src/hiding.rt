@@ -45,11 +45,7 @@ fn unknown(alloc: Global, mention: &Mention) -> Result<Typed, AnalysisFault>
 
 /// The refusal of the first thing that an expression mentions and no output column shows.
 #[tactic(auto, using(crate::proofs::HidingSteps::refusal_steps))]
-fn no_hidden(
-    alloc: Global,
-    value: &OrTree,
-    outputs: &[Named],
-) -> Result<Typed, AnalysisFault>
+fn no_hidden(alloc: Global, value: &OrTree, outputs: &[Named]) -> Result<Typed, AnalysisFault>
     ensures { Says result (spec.no_hidden outputs.now value.now) }
 {
     match first_missing(value, outputs) {

@@ -62,12 +62,7 @@ fn hidden_column(first: usize, others: usize) -> Result<Expr, Memory>
 }
 
 /// The order with a key more, which is a hidden column behind the others.
-fn with_hidden(
-    first: usize,
-    order: Order,
-    value: Typed,
-    sort: &SortTree,
-) -> Result<Order, Memory>
+fn with_hidden(first: usize, order: Order, value: Typed, sort: &SortTree) -> Result<Order, Memory>
     ensures { IfOk result (λ o. order_seen o ≡ orders.with_hidden first (order_seen order) value sort.now) }
 {
     let mut order = order;
@@ -78,12 +73,7 @@ fn with_hidden(
 }
 
 /// The order with a key more.
-fn with_key(
-    first: usize,
-    order: Order,
-    sorting: Sorting,
-    sort: &SortTree,
-) -> Result<Order, Memory>
+fn with_key(first: usize, order: Order, sorting: Sorting, sort: &SortTree) -> Result<Order, Memory>
     ensures { IfOk result (λ o. order_seen o ≡ orders.with_key first (order_seen order) (sorting_seen sorting) sort.now) }
 {
     match sorting {

@@ -78,11 +78,7 @@ fn keys_over(alloc: Global, sorts: &[SortTree], plan: &Logical) -> Result<SortKe
 
 /// A plan that shows its own columns alone, in the order of an ORDER BY: a union, or a query in parentheses.
 #[tactic(auto, using(crate::proofs::OrderSteps::alone_steps))]
-pub fn ordered(
-    alloc: Global,
-    sorts: &[SortTree],
-    plan: Logical,
-) -> Result<Logical, AnalysisFault>
+pub fn ordered(alloc: Global, sorts: &[SortTree], plan: Logical) -> Result<Logical, AnalysisFault>
     ensures { Says result (spec.ordered sorts.now plan) }
 {
     match keys_over(alloc, sorts, &plan) {

@@ -58,11 +58,7 @@ fn shown(alloc: Global, value: &OrTree, outputs: &[Named]) -> Result<Sorting, An
 
 /// An expression that is not over the output columns alone.
 #[tactic(auto, using(crate::proofs::SortingSteps::sorting_steps))]
-fn hidden<H: Hiding>(
-    alloc: Global,
-    hiding: &H,
-    value: &OrTree,
-) -> Result<Sorting, AnalysisFault>
+fn hidden<H: Hiding>(alloc: Global, hiding: &H, value: &OrTree) -> Result<Sorting, AnalysisFault>
     ensures { SaysSeen sorting_seen result (spec.hidden_value (H.rule hiding.now value.now)) }
 {
     let value = hiding.hidden(alloc, value)?;

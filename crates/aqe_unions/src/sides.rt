@@ -75,11 +75,7 @@ fn cast_fields(
 }
 
 /// The expressions and the fields of a side with these types.
-fn cast_parts(
-    alloc: Global,
-    kinds: &[SqlType],
-    fields: &[Field],
-) -> Result<(Exprs, Schema), Memory>
+fn cast_parts(alloc: Global, kinds: &[SqlType], fields: &[Field]) -> Result<(Exprs, Schema), Memory>
     ensures expressions { IfOk result (λ parts. parts.0 ≡ spec.cast_columns 0 kinds.now fields.now) }
     ensures fields { IfOk result (λ parts. parts.1 ≡ spec.cast_fields kinds.now fields.now) }
 {
@@ -108,11 +104,7 @@ fn cast_rows(
 
 /// The side as one whose columns have these types.
 #[tactic(auto, using(crate::proofs::SideSteps::side_steps))]
-pub(crate) fn cast_side(
-    alloc: Global,
-    kinds: &[SqlType],
-    plan: Logical,
-) -> Result<Logical, Memory>
+pub(crate) fn cast_side(alloc: Global, kinds: &[SqlType], plan: Logical) -> Result<Logical, Memory>
     ensures { IfOk result (λ p. p ≡ spec.cast_side kinds.now plan) }
 {
     let (fields, plan) = both(schema_of(alloc, &plan), Ok(plan))?;

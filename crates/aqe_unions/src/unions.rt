@@ -46,12 +46,7 @@ fn distinct_union(alloc: Global, left: Logical, right: Logical) -> Result<Logica
 
 /// The rows of both sides, equal ones once where that is wanted.
 #[tactic(auto, using(crate::proofs::UnionSteps::plan_steps))]
-fn united(
-    alloc: Global,
-    distinct: bool,
-    left: Logical,
-    right: Logical,
-) -> Result<Logical, Memory>
+fn united(alloc: Global, distinct: bool, left: Logical, right: Logical) -> Result<Logical, Memory>
     ensures { IfOk result (λ p. p ≡ distinct_if distinct (schema_of left) (shapes.united left right)) }
 {
     if distinct {
