@@ -3,4 +3,4 @@ pub mod PositionSteps
 pub mod SortingSteps
 pub mod OrderSteps
 pub mod PlanSteps
-pub mod Sorted
+pub mod SortedPlans

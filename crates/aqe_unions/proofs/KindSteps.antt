@@ -72,3 +72,7 @@ module _ (fields : List Field) (others behind_others : List SqlType) (i : ℕ) (
 
 pub no_kinds_left : (fields : List Field) (others : List SqlType) (whole : Bool) → others ≡ [] → has_kinds others fields ≡ whole → whole ≡ true
 no_kinds_left fields others whole e h = sym h ∙ ap (λ (ks : List SqlType). has_kinds ks fields) e
+
+pub no_columns_left : (fields : List Field) (others : List SqlType) (whole : Bool) → fields ≡ [] → has_kinds others fields ≡ whole → true ≡ whole
+no_columns_left fields [] whole e h = h
+no_columns_left fields (k ∷ ks) whole e h = sym (ap (has_kinds (k ∷ ks)) e) ∙ h

@@ -1,5 +1,6 @@
 -- A side that is cast, one column more at a time.
-use Rattle.std.proofs.Common.{◌≡◌, ℕ, ◌+◌, ◌<◌, Bool, true, false, List, [], ◌∷◌, ◌++◌, length, refl, ap, sym, ◌∙◌, drop, get_or, append_assoc, append-nil, length-append, arith}
+use Rattle.std.proofs.Common.{◌≡◌, ℕ, ◌+◌, ◌<◌, Bool, true, false, List, [], ◌∷◌, ◌++◌, length, refl, ap, sym, ◌∙◌, drop, get_or, append_assoc, append-nil, length-append, arith, Result}
+use Rattle.std.specs.Prelude.{IfOk}
 use Rattle.std.proofs.lemmas.List.{drop_more}
 use Rattle.aqe_values.specs.declared.sql_type.SqlType.{SqlType}
 use Rattle.aqe_values.specs.declared.schema.Field.{Field}
@@ -68,8 +69,9 @@ pub fields_all : (schema whole : List Field) (ks : List SqlType) (fields : List 
 fields_all schema whole ks fields e h = sym (append-nil schema) ∙ sym (ap (λ (fs : List Field). schema ++ cast_fields ks fs) e ∙ ap (λ (all : List Field). schema ++ all) (no_fields ks)) ∙ h
 
 -- the side
-pub rows_cast : (items : List Expr) (schema : List Field) (plan p : Logical) → p ≡ Project items schema plan → p ≡ projected items schema plan
-rows_cast items schema plan p e = rw e (is_projected items schema plan)
+pub rows_cast : {E : Type 0} (items a : List Expr) (schema b : List Field) (q plan : Logical) (result : Result Logical E) → items ≡ a → schema ≡ b → q ≡ plan →
+    IfOk result (λ p. p ≡ Project items schema q) → IfOk result (λ p. p ≡ projected a b plan)
+rows_cast items a schema b q plan result e h k made = rw (← is_projected a b plan, ← e, ← h, ← k) made
 
 pub side_stays : (kinds : List SqlType) (fields : List Field) (plan : Logical) → fields ≡ schema_of plan → has_kinds kinds fields ≡ true → plan ≡ cast_side kinds plan
 side_stays kinds fields plan e h = let k : has_kinds kinds (schema_of plan) ≡ true = ap (has_kinds kinds) (sym e) ∙ h in rw k refl
@@ -78,4 +80,4 @@ pub side_cast : (kinds : List SqlType) (fields : List Field) (plan p : Logical) 
     p ≡ projected (cast_columns 0 kinds fields) (cast_fields kinds fields) plan → p ≡ cast_side kinds plan
 side_cast kinds fields plan p e h made = let k : has_kinds kinds (schema_of plan) ≡ false = ap (has_kinds kinds) (sym e) ∙ h in rw (made, e, k) refl
 
-pub ruleset side_steps = (rows_cast, side_stays, side_cast)
+pub ruleset side_steps = (side_stays, side_cast)

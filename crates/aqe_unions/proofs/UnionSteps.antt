@@ -1,5 +1,6 @@
 -- The union of two sides, as the code makes it.
 use Rattle.std.proofs.Common.{◌≡◌, ◌==◌, Bool, true, false, List, [], length, Result, Ok, Err, refl, ap, sym, subst, ◌∙◌}
+use Rattle.std.specs.Prelude.{IfOk}
 use Rattle.aqe_base.specs.declared.status.AnalysisKind.TheVariants.{UnionWidth}
 use Rattle.aqe_values.specs.declared.sql_type.SqlType.{SqlType}
 use Rattle.aqe_values.specs.declared.schema.Field.{Field}
@@ -47,16 +48,18 @@ module _ (l r : Logical) (fs gs : List Field) (a : Result (List SqlType) Analysi
 pub ruleset width_steps = (memory_fails, kinds_fail, widths_differ, kinds_known)
 
 -- the plan
-pub rows_once : (l r p q : Logical) (fields : List Field) → fields ≡ schema_of l → q ≡ Union l r → p ≡ distinct_rows fields q → p ≡ distinct_rows (schema_of l) (united l r)
-rows_once l r p q fields e h k = rw (k, h, e, is_united l r) refl
+pub rows_once : {E : Type 0} (l r q : Logical) (fields : List Field) (result : Result Logical E) → fields ≡ schema_of l → q ≡ Union l r →
+    IfOk result (λ p. p ≡ distinct_rows fields q) → IfOk result (λ p. p ≡ distinct_rows (schema_of l) (united l r))
+rows_once l r q fields result e h made = rw (← is_united l r, ← e, ← h) made
 
-pub once_if : (distinct : Bool) (l r p : Logical) → distinct ≡ true → p ≡ distinct_rows (schema_of l) (united l r) → p ≡ distinct_if distinct (schema_of l) (united l r)
-once_if distinct l r p e h = rw e h
+pub once_if : {E : Type 0} (distinct : Bool) (l r : Logical) (result : Result Logical E) → distinct ≡ true →
+    IfOk result (λ p. p ≡ distinct_rows (schema_of l) (united l r)) → IfOk result (λ p. p ≡ distinct_if distinct (schema_of l) (united l r))
+once_if distinct l r result e made = rw e made
 
-pub all_rows : (distinct : Bool) (l r p : Logical) → distinct ≡ false → p ≡ Union l r → p ≡ distinct_if distinct (schema_of l) (united l r)
-all_rows distinct l r p e h = rw (e, h) (is_united l r)
+pub all_rows : {E : Type 0} (distinct : Bool) (l r : Logical) (result : Result Logical E) → distinct ≡ false → IfOk result (λ p. p ≡ Union l r) → IfOk result (λ p. p ≡ distinct_if distinct (schema_of l) (united l r))
+all_rows distinct l r result e made = rw (e, ← is_united l r) made
 
-pub ruleset plan_steps = (rows_once, once_if, all_rows)
+pub ruleset plan_steps = (once_if, all_rows)
 
 -- the union
 pub limits_said : (distinct : Bool) (kinds : List SqlType) (l r a b p : Logical) (result : Result Logical AnalysisFault) → a ≡ cast_side kinds l → b ≡ cast_side kinds r →

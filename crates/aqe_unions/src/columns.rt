@@ -5,7 +5,6 @@ ghost use Rattle.aqe_expr.specs.declared.expr.Expr.{Column};
 ghost use Rattle.aqe_rules.specs.Plans as spec;
 
 use aqe_base::Memory;
-use aqe_boxes::both;
 use aqe_expr::Expr;
 use aqe_logical::{AggCalls, Exprs, Logical};
 use aqe_values::{Field, Schema};
@@ -34,10 +33,10 @@ pub fn columns_up_to(alloc: Global, fields: &[Field]) -> Result<Exprs, Memory>
 }
 
 /// The rows of a plan with these fields, equal ones once.
-#[tactic(auto, using(crate::proofs::ColumnSteps::distinct_made))]
 pub fn distinct_rows(alloc: Global, fields: Schema, plan: Logical) -> Result<Logical, Memory>
     ensures { IfOk result (λ p. p ≡ spec.distinct_rows fields plan) }
 {
-    let (columns, plan) = both(columns_up_to(alloc, fields.slice()), Ok(plan))?;
-    Logical::aggregate(alloc, columns, AggCalls::new(alloc), fields, plan)
+    let columns = columns_up_to(alloc, fields.slice())?;
+    let plan = Logical::aggregate(alloc, columns, AggCalls::new(alloc), fields, plan)?;
+    Ok(plan)
 }
