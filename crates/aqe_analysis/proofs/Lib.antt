@@ -1,8 +1,3 @@
-pub mod ColumnSteps
-pub mod ColumnLists
-pub mod TableSteps
-pub mod NameSteps
-pub mod OutputSteps
-pub mod PlanSteps
-pub mod SelectSteps
 pub mod QuerySteps
+pub mod StepLemmas
+pub mod Turns

@@ -2,16 +2,8 @@
 #![tactic(auto)]
 
 mod analysis;
-mod building;
-mod clauses;
-mod limits;
-mod output_names;
-mod outputs;
-mod pairs;
-mod plans;
-mod scope;
-mod select;
-mod source;
+mod forms;
+mod steps;
 
 pub use analysis::analyse;
 pub use aqe_laws::{

@@ -20,7 +20,7 @@ use Rattle.aqe_tables.specs.declared.fault.LoadFault.{LoadFault}
 use Rattle.aqe_tables.specs.Loaded.{Slots}
 use Rattle.aqe_rules.specs.Outcomes.{Check}
 use Rattle.aqe_rules.specs.Analysis.{Analysed, walk}
-use Rattle.aqe_analysis.specs.Catalogs.{seen}
+use Rattle.aqe_sources.specs.Catalogs.{seen}
 use Rattle.aqe_built.specs.Built.{is_script_built}
 use Rattle.aqe_lists.specs.Forms.{scans}
 use Rattle.aqe_course.specs.Command.{Command}

@@ -19,7 +19,7 @@ use Rattle.aqe_tables.specs.Loaded.{IsLoaded, Loads, Pads, Slots, all_bytes, tab
 use Rattle.aqe_tables.proofs.LoadedFacts.{put_loads}
 use Rattle.aqe_rules.specs.Outcomes.{Outcome}
 use Rattle.aqe_rules.specs.Analysis.{Analysed, walk}
-use Rattle.aqe_analysis.specs.Catalogs.{seen}
+use Rattle.aqe_sources.specs.Catalogs.{seen}
 use Rattle.aqe_built.specs.Built.{is_script_built, is_statement_built}
 use Rattle.aqe_lists.specs.Forms.{scans}
 use Rattle.aqe_course.specs.Loading.{AreLoaded, IsAdded, IsStopped}

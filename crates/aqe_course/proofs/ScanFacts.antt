@@ -11,7 +11,7 @@ use Rattle.aqe_tables.specs.declared.catalog.CatalogTable.{CatalogTable}
 use Rattle.aqe_rules.specs.Analysis.{Analysed}
 use Rattle.aqe_laws.specs.Scans.{columns_of_tables, scanned_tables, HasItsColumns}
 use Rattle.aqe_laws.proofs.Scans.{of_the_catalog}
-use Rattle.aqe_analysis.specs.Catalogs.{seen}
+use Rattle.aqe_sources.specs.Catalogs.{seen}
 use Rattle.aqe_lists.specs.Forms.{scans}
 
 abbrev numbers_of : List (ℕ × List Field) → List ℕ

@@ -25,7 +25,7 @@ use Rattle.aqe_rules.specs.declared.fault.AnalysisFault.{AnalysisFault}
 use Rattle.aqe_rules.specs.declared.fault.AnalysisFault.TheVariants as fault
 use Rattle.aqe_rules.specs.Outcomes.{Check, refused, too_many_operators, too_many_columns}
 use Rattle.aqe_rules.specs.Analysis.{Analysed, walk}
-use Rattle.aqe_analysis.specs.Catalogs.{seen}
+use Rattle.aqe_sources.specs.Catalogs.{seen}
 use Rattle.aqe_lists.specs.Forms.{scans}
 use Rattle.aqe_course.specs.Loading.{AreLoaded, IsStopped}
 

@@ -13,7 +13,7 @@ use Rattle.aqe_trees.specs.declared.query.QueryTree.{QueryTree}
 use Rattle.aqe_trees.specs.declared.statement.Stmt.{Stmt}
 use Rattle.aqe_trees.specs.declared.statement.Stmt.TheVariants as statement
 use Rattle.aqe_rules.specs.Analysis.{Analysed}
-use Rattle.aqe_analysis.specs.Catalogs.{seen}
+use Rattle.aqe_sources.specs.Catalogs.{seen}
 use Rattle.aqe_tables.specs.Loaded.{IsLoaded}
 use Rattle.aqe_lists.specs.Forms.{scans}
 use Rattle.aqe_lists.specs.LoadedTables.{tables_of}

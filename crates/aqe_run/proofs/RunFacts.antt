@@ -18,7 +18,7 @@ use Rattle.aqe_tables.specs.declared.catalog.CatalogTable.{CatalogTable}
 use Rattle.aqe_rules.specs.Analysis.{Analysed}
 use Rattle.aqe_laws.proofs.QueryTrees.{well_formed}
 use Rattle.aqe_built.specs.Built.{is_query_built}
-use Rattle.aqe_analysis.specs.Catalogs.{seen}
+use Rattle.aqe_sources.specs.Catalogs.{seen}
 use Rattle.aqe_lists.specs.Forms.{IsNarrow, IsOfOneSource, scans}
 use Rattle.aqe_lists.proofs.Narrow.{narrow}
 use Rattle.aqe_course.specs.Command.{command}

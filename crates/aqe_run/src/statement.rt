@@ -7,7 +7,7 @@ ghost use Rattle.aqe_store.specs.Told.{WhereTold};
 ghost use Rattle.aqe_built.specs.Built.{is_query_built, is_statement_built};
 ghost use Rattle.aqe_rules.specs.Analysis.{Analysed};
 ghost use Rattle.aqe_lists.specs.Forms.{AreScansLoaded, IsNarrow, IsOfOneSource, scans as scans_of};
-ghost use Rattle.aqe_analysis.specs.Catalogs.{seen};
+ghost use Rattle.aqe_sources.specs.Catalogs.{seen};
 ghost use Rattle.aqe_settings.specs.declared.entry.Value.{Value};
 ghost use Rattle.aqe_settings.specs.Values.{values_of};
 ghost use Rattle.aqe_course.specs.Course.{IsCreated, IsNotAnalysed, IsNotCreated, of_create, of_fault, query as query_of};

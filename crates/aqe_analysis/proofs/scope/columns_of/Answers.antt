@@ -1,8 +1,0 @@
-use Rattle.std.proofs.Common.{rules}
-use Rattle.aqe_analysis.proofs.ColumnLists.{columns-step}
-use Rattle.aqe_analysis.proofs.scope.columns_of.Goals as goal
-
-pub items-preserved : goal.items-preserved
-items-preserved c =
-    columns-step c.args.items.now c.items.item-index c.item-item.result c.items.columns c.append_columns.new.columns
-    (search rules) c.item-item.is c.items.invariant (search rules)

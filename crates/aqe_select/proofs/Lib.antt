@@ -1,0 +1,4 @@
+pub mod NameSteps
+pub mod OutputSteps
+pub mod PlanSteps
+pub mod SelectSteps

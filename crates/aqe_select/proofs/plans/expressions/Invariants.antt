@@ -1,0 +1,7 @@
+use Rattle.std.proofs.Common.{◌≡◌}
+use Rattle.aqe_select.specs.Items.{exprs_of}
+use Rattle.aqe_select.specs.Shown.{outputs_seen}
+use Rattle.aqe_select.proofs.plans.expressions.Given as goal
+
+abbrev pub invariant-outputs : goal.invariant-outputs
+invariant-outputs l = l.exprs ≡ exprs_of (outputs_seen l.yielded)

@@ -1,0 +1,58 @@
+//! Whether a SELECT is grouped.
+
+ghost use Rattle.std.specs.Prelude.{◌≡◌};
+ghost use Rattle.aqe_rules.specs.Selects as spec;
+ghost use Rattle.aqe_select.specs.Clauses as clauses_of;
+
+use crate::clauses::Clauses;
+use aqe_looks::has_aggregate;
+use aqe_script::parts::sort_parts;
+use aqe_trees::{ItemTree, OrTree, SortTree};
+
+/// Whether the item of a select list calls an aggregate function.
+fn item_has_aggregate(item: &ItemTree) -> bool
+    ensures { result ≡ spec.item_has_aggregate item.now }
+{
+    match item {
+        ItemTree::One { value, .. } => has_aggregate(value),
+        ItemTree::All | ItemTree::AllOf(_) => false,
+    }
+}
+
+/// Whether the key of an ORDER BY calls an aggregate function.
+fn sort_has_aggregate(sort: &SortTree) -> bool
+    ensures { result ≡ spec.sort_has_aggregate sort.now }
+{
+    let (value, _, _) = sort_parts(sort);
+    has_aggregate(value)
+}
+
+/// Whether there are none.
+fn is_empty<T>(items: &[T]) -> bool
+    ensures { result ≡ spec.is_empty items.now }
+{
+    items.split_first().is_none()
+}
+
+/// Whether a query is grouped: it has GROUP BY, HAVING, or an aggregate call in its select list or ORDER BY.
+fn is_grouped(
+    list: &[ItemTree],
+    group: &[OrTree],
+    having: &Option<OrTree>,
+    sorts: &[SortTree],
+) -> bool
+    ensures { result ≡ spec.is_grouped list.now group.now having.now sorts.now }
+{
+    !is_empty(group)
+        || having.is_some()
+        || list.iter().any(|item| item_has_aggregate(item))
+        || sorts.iter().any(|sort| sort_has_aggregate(sort))
+}
+
+/// Whether a SELECT is not grouped and has no order.
+pub(crate) fn is_plain(clauses: &Clauses) -> bool
+    ensures { result ≡ clauses_of.is_plain clauses.now }
+{
+    let is_grouped = is_grouped(clauses.list, clauses.group, clauses.having, clauses.sorts);
+    !is_grouped && is_empty(clauses.sorts)
+}

@@ -1,0 +1,266 @@
+//! The plan of a SELECT from what its clauses come to: its groups, HAVING, the output columns, and DISTINCT.
+//!
+//! What is made in several steps is handed on as results, so that no plan is alive where a step may find no memory.
+
+ghost use Rattle.std.specs.Prelude.{◌≡◌, ◌++◌, [], map, true, Ok, ◌∷◌, IfOk};
+ghost use Rattle.aqe_expr.specs.declared.expr.Expr.{Column};
+ghost use Rattle.aqe_rules.specs.Analysis as analysis;
+ghost use Rattle.aqe_rules.specs.Plans as spec;
+ghost use Rattle.aqe_rules.specs.Selects.{field};
+ghost use Rattle.aqe_typing.specs.Calls.{calls_seen};
+ghost use Rattle.aqe_select.specs.Clauses.{selected_seen};
+ghost use Rattle.aqe_select.specs.Items as items;
+ghost use Rattle.aqe_select.specs.Shown.{outputs_seen};
+
+use crate::outputs::{OutputColumn, Outputs};
+use aqe_base::{Listing, Memory};
+use aqe_boxes::both;
+use aqe_expr::Expr;
+use aqe_logical::{AggCalls, Exprs, Logical};
+use aqe_rules::{Named, Typed};
+use aqe_typing::Call;
+use aqe_values::{Field, Schema, SqlType, Text};
+use std::alloc::Global;
+
+/// What the clauses of a SELECT come to.
+#[derive(Drop)]
+pub(crate) struct Selected {
+    /// The rows that WHERE keeps.
+    pub below: Logical,
+    /// The columns of FROM.
+    pub columns: Listing<Named>,
+    pub is_grouped: bool,
+    /// The keys of the groups.
+    pub keys: Listing<Typed>,
+    pub outputs: Outputs,
+    pub having: Option<Typed>,
+    pub distinct: bool,
+}
+
+/// Puts a column without a name behind the others.
+fn push_nameless(
+    alloc: Global,
+    fields: &mut Schema,
+    kind: SqlType,
+) -> Result<(), aqe_values::Memory>
+    ensures { IfOk result (λ _. fields.new ≡ fields.old ++ field [] kind ∷ []) }
+{
+    let name = Text::copy_of(alloc, "")?;
+    fields.push(Field { name, kind })
+}
+
+/// The columns of keys and calls, which have no names.
+fn fields_of_groups(
+    alloc: Global,
+    keys: &[Typed],
+    calls: &[Call],
+) -> Result<Schema, aqe_values::Memory>
+    ensures { IfOk result (λ fields. fields ≡ spec.aggregate_fields keys.now (calls_seen calls.now)) }
+{
+    let mut fields = Schema::new(alloc);
+    'keys: for key in keys {
+        push_nameless(alloc, &mut fields, key.kind)?;
+    }
+    'calls: for call in calls {
+        push_nameless(alloc, &mut fields, call.kind)?;
+    }
+    Ok(fields)
+}
+
+/// The expressions of keys.
+fn key_expressions(alloc: Global, keys: Listing<Typed>) -> Result<Exprs, Memory>
+    ensures { IfOk result (λ exprs. exprs ≡ map (λ k. k.expr) keys) }
+{
+    let mut exprs = Exprs::new(alloc);
+    'keys: for key in keys.into_vec() {
+        exprs.push(key.expr)?;
+    }
+    Ok(exprs)
+}
+
+/// The calls without their types.
+fn untyped_calls(alloc: Global, calls: Listing<Call>) -> Result<AggCalls, Memory>
+    ensures { IfOk result (λ made. made ≡ map (λ c. c.call) (calls_seen calls)) }
+{
+    let mut made = AggCalls::new(alloc);
+    'calls: for call in calls.into_vec() {
+        made.push(call.call)?;
+    }
+    Ok(made)
+}
+
+/// The columns, where memory did not run out.
+fn schema_or_memory(fields: Result<Schema, aqe_values::Memory>) -> Result<Schema, Memory>
+    ensures { IfOk result (λ schema. fields ≡ Ok schema) }
+{
+    match fields {
+        Ok(fields) => Ok(fields),
+        Err(_) => Err(Memory),
+    }
+}
+
+/// The groups of the rows of a plan, by these keys and with the values of these calls.
+#[tactic(auto, using(crate::proofs::PlanSteps::groups_made))]
+fn grouped(
+    alloc: Global,
+    keys: Listing<Typed>,
+    calls: Listing<Call>,
+    below: Logical,
+) -> Result<Logical, Memory>
+    ensures { IfOk result (λ p. p ≡ spec.groups_of true keys (calls_seen calls) below) }
+{
+    let fields = fields_of_groups(alloc, keys.slice(), calls.slice());
+    let schema = schema_or_memory(fields);
+    let keys = key_expressions(alloc, keys);
+    let calls = untyped_calls(alloc, calls);
+    let ((keys, calls), (schema, below)) = both(both(keys, calls), both(schema, Ok(below)))?;
+    Logical::aggregate(alloc, keys, calls, schema, below)
+}
+
+/// The same where the query is grouped; else its rows as they are.
+fn groups_of(
+    alloc: Global,
+    is_grouped: bool,
+    keys: Listing<Typed>,
+    calls: Listing<Call>,
+    below: Logical,
+) -> Result<Logical, Memory>
+    ensures { IfOk result (λ p. p ≡ spec.groups_of is_grouped keys (calls_seen calls) below) }
+{
+    if is_grouped {
+        grouped(alloc, keys, calls, below)
+    } else {
+        Ok(below)
+    }
+}
+
+/// The rows of the plan that HAVING keeps.
+#[tactic(auto, using(crate::proofs::PlanSteps::having_made))]
+fn filtered_by(alloc: Global, having: Option<Typed>, below: Logical) -> Result<Logical, Memory>
+    ensures { IfOk result (λ p. p ≡ spec.filtered_by having below) }
+{
+    match having {
+        Some(having) => Logical::filter(alloc, having.expr, below),
+        None => Ok(below),
+    }
+}
+
+/// The expressions of output columns.
+fn expressions(alloc: Global, outputs: Outputs) -> Result<Exprs, Memory>
+    ensures { IfOk result (λ exprs. exprs ≡ items.exprs_of (outputs_seen outputs)) }
+{
+    let mut exprs = Exprs::new(alloc);
+    'outputs: for output in outputs.into_vec() {
+        exprs.push(output.value.expr)?;
+    }
+    Ok(exprs)
+}
+
+/// The fields of output columns.
+fn fields_of(alloc: Global, outputs: &[OutputColumn]) -> Result<Schema, aqe_values::Memory>
+    ensures { IfOk result (λ fields. fields ≡ spec.fields_of (outputs_seen outputs.now)) }
+{
+    let mut fields = Schema::new(alloc);
+    'outputs: for output in outputs {
+        let name = Text::copy_of(alloc, output.name.as_str())?;
+        let kind = output.value.kind;
+        fields.push(Field { name, kind })?;
+    }
+    Ok(fields)
+}
+
+/// The column at a place. Places above 4,294,967,295 find no memory.
+fn column_at(place: usize) -> Result<Expr, Memory>
+    ensures { IfOk result (λ e. e ≡ Column place) }
+{
+    match u32::try_from(place) {
+        Ok(place) => Ok(Expr::Column(place)),
+        Err(_) => Err(Memory),
+    }
+}
+
+/// The columns of a plan with these fields.
+fn columns_up_to(alloc: Global, fields: &[Field]) -> Result<Exprs, Memory>
+    ensures { IfOk result (λ columns. columns ≡ spec.columns_up_to 0 fields.now) }
+{
+    let mut columns = Exprs::new(alloc);
+    'fields: for _ in fields {
+        let column = column_at(columns.len())?;
+        columns.push(column)?;
+    }
+    Ok(columns)
+}
+
+/// The rows of the plan, equal ones once.
+#[tactic(auto, using(crate::proofs::PlanSteps::distinct_made))]
+fn distinct_rows(alloc: Global, fields: Schema, plan: Logical) -> Result<Logical, Memory>
+    ensures { IfOk result (λ p. p ≡ spec.distinct_rows fields plan) }
+{
+    let (columns, plan) = both(columns_up_to(alloc, fields.slice()), Ok(plan))?;
+    Logical::aggregate(alloc, columns, AggCalls::new(alloc), fields, plan)
+}
+
+/// The plan with the output columns alone.
+#[tactic(auto, using(crate::proofs::PlanSteps::projection_made))]
+fn projected_to(alloc: Global, outputs: Outputs, below: Logical) -> Result<Logical, Memory>
+    ensures { IfOk result (λ p. p ≡ spec.projected_to (outputs_seen outputs) below) }
+{
+    let fields = fields_of(alloc, outputs.slice());
+    let schema = schema_or_memory(fields);
+    let items = expressions(alloc, outputs);
+    let (items, (schema, below)) = both(items, both(schema, Ok(below)))?;
+    Logical::project(alloc, items, schema, below)
+}
+
+/// The same, equal rows once.
+fn distinct_outputs(alloc: Global, outputs: Outputs, below: Logical) -> Result<Logical, Memory>
+    ensures { IfOk result (λ p. p ≡ spec.distinct_rows (spec.fields_of (outputs_seen outputs))
+        (spec.projected_to (outputs_seen outputs) below)) }
+{
+    let fields = fields_of(alloc, outputs.slice());
+    let schema = schema_or_memory(fields);
+    let (schema, plan) = both(schema, projected_to(alloc, outputs, below))?;
+    distinct_rows(alloc, schema, plan)
+}
+
+/// The plan with the output columns alone, equal rows once where that is wanted.
+fn shown(
+    alloc: Global,
+    distinct: bool,
+    outputs: Outputs,
+    below: Logical,
+) -> Result<Logical, Memory>
+    ensures { IfOk result (λ p. p ≡ spec.distinct_if distinct (spec.fields_of (outputs_seen outputs))
+        (spec.projected_to (outputs_seen outputs) below)) }
+{
+    if distinct {
+        distinct_outputs(alloc, outputs, below)
+    } else {
+        projected_to(alloc, outputs, below)
+    }
+}
+
+/// The plan of a SELECT with the values of these calls, before its ORDER BY.
+#[tactic(auto, using(crate::proofs::PlanSteps::plan_made))]
+pub(crate) fn plan_of(
+    alloc: Global,
+    selected: Selected,
+    calls: Listing<Call>,
+) -> Result<Logical, Memory>
+    ensures { IfOk result (λ p. p ≡ analysis.plan_of (selected_seen selected) (calls_seen calls) []) }
+{
+    let Selected {
+        below,
+        is_grouped,
+        keys,
+        outputs,
+        having,
+        distinct,
+        ..
+    } = selected;
+    let groups = groups_of(alloc, is_grouped, keys, calls, below);
+    let (groups, (having, outputs)) = both(groups, Ok((having, outputs)))?;
+    let kept = filtered_by(alloc, having, groups);
+    let (kept, outputs) = both(kept, Ok(outputs))?;
+    shown(alloc, distinct, outputs, kept)
+}

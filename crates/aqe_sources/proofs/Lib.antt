@@ -1,0 +1,4 @@
+pub mod ColumnLists
+pub mod ColumnSteps
+pub mod TableSteps
+pub mod JoinSteps

@@ -1,0 +1,5 @@
+pub mod Catalogs
+pub mod Given
+pub mod Seen
+pub mod Pairs
+pub mod Widths
