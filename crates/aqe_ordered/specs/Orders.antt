@@ -10,8 +10,8 @@ use Rattle.aqe_trees.specs.declared.expression.OrTree.{OrTree}
 use Rattle.aqe_trees.specs.declared.query.SortTree.{SortTree}
 use Rattle.aqe_rules.specs.Expressions.{read, alone_of}
 use Rattle.aqe_rules.specs.Outcomes.{Outcome, upon}
-use Rattle.aqe_rules.specs.Operations.{Typed}
-use Rattle.aqe_rules.specs.Readings.{Named}
+use Rattle.aqe_rules.specs.declared.typed.Typed.{Typed}
+use Rattle.aqe_rules.specs.declared.names.Named.{Named}
 use Rattle.aqe_rules.specs.Sources.{numbered, over}
 use Rattle.aqe_rules.specs.Selects.{at_position}
 use Rattle.aqe_rules.specs.Plans as plans

@@ -2,7 +2,7 @@
 use Rattle.std.specs.Prelude.{ℕ, zero, suc, Bool, true, false, List, Option, None, slice_get, Ok}
 use Rattle.aqe_expr.specs.declared.expr.Expr.{Expr}
 use Rattle.aqe_rules.specs.Outcomes.{Outcome}
-use Rattle.aqe_rules.specs.Readings.{Named}
+use Rattle.aqe_rules.specs.declared.names.Named.{Named}
 
 -- what stands at a position, which counts from 1
 abbrev pub found : {A : Type 0} → Bool → ℕ → List A → Option A

@@ -49,7 +49,7 @@ fn bad_position(alloc: Global, negative: bool, n: u64) -> AnalysisFault
 
 /// The output column at a position, which counts from 1.
 fn column_at<'a>(negative: bool, n: u64, outputs: &'a [Named]) -> Option<&'a Named>
-    ensures { option_map (λ column. column.now) result.entry ≡ positions.found negative n outputs.now }
+    ensures { option_map (λ column. column.now) result ≡ positions.found negative n outputs.now }
 {
     if negative {
         return None;

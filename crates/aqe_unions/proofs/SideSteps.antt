@@ -1,5 +1,5 @@
 -- A side that is cast, one column more at a time.
-use Rattle.std.proofs.Common.{◌≡◌, ℕ, ◌+◌, ◌<◌, Bool, true, false, List, [], ◌∷◌, ◌++◌, length, refl, ap, sym, ◌∙◌, drop, get_or, append_assoc, append-nil, length-append, arith, Result}
+use Rattle.std.proofs.Common.{◌≡◌, ℕ, ◌+◌, ◌<◌, true, false, List, [], ◌∷◌, ◌++◌, length, refl, ap, sym, ◌∙◌, drop, get_or, append_assoc, append-nil, length-append, Result}
 use Rattle.std.specs.Prelude.{IfOk}
 use Rattle.std.proofs.lemmas.List.{drop_more}
 use Rattle.aqe_values.specs.declared.sql_type.SqlType.{SqlType}
@@ -11,7 +11,8 @@ use Rattle.aqe_logical.specs.Columns.{schema_of}
 use Rattle.aqe_logical.specs.Shapes.{projected}
 use Rattle.aqe_logical.proofs.Shapes.{is_projected}
 use Rattle.aqe_rules.specs.Kinds.{is_same_kind}
-use Rattle.aqe_rules.specs.Operations.{Typed, typed, cast, converted}
+use Rattle.aqe_rules.specs.declared.typed.Typed.{Typed}
+use Rattle.aqe_rules.specs.Operations.{typed, cast, converted}
 use Rattle.aqe_rules.specs.Selects.{field}
 use Rattle.aqe_rules.specs.Unions.{has_kinds, cast_columns, cast_fields, cast_side}
 
