@@ -1,5 +1,5 @@
 -- Positions, as the code reads them.
-use Rattle.std.proofs.Common.{◌≡◌, ℕ, zero, suc, List, [], ◌∷◌, ◌++◌, Bool, true, false, cond, codes, Option, Some, None, Ok, Err, refl, ap, sym, ◌∙◌}
+use Rattle.std.proofs.Common.{◌≡◌, ℕ, zero, suc, ◌+◌, ◌<◌, arith, List, [], ◌∷◌, ◌++◌, Bool, true, false, cond, codes, Option, Some, None, Ok, Err, refl, ap, sym, ◌∙◌}
 use Rattle.std.specs.Prelude.{option_map, slice_get}
 use Rattle.std.specs.Fmt.{decimal}
 use denote.Ref.{Bor}
@@ -38,5 +38,20 @@ module _ (negative : Bool) (n : ℕ) (all : List Named) (o : Option (Bor Named))
   nothing_there f is t =
       let there : found negative n all ≡ None = sym h ∙ ap (option_map (λ (x : Bor Named). x.now)) is in
       rw (position_found negative n all, there) t
+
+-- what stands at a position, as the code looks for it
+pub no_negative : (negative : Bool) (n : ℕ) (all : List Named) → negative ≡ true → None ≡ found negative n all
+no_negative negative n all e = rw e refl
+
+pub no_zero : (negative : Bool) (n : ℕ) (all : List Named) → negative ≡ false → n < 1 → None ≡ found negative n all
+no_zero negative zero all e lt = rw e refl
+no_zero negative (suc n) all e lt = absurd (omega (arith, lt))
+
+pub found_from_0 : (negative : Bool) (n m : ℕ) (all : List Named) (o : Option Named) → negative ≡ false → m + 1 ≡ n → o ≡ slice_get all m → o ≡ found negative n all
+found_from_0 negative n m all o e h is =
+    let next : n ≡ suc m = omega (arith, h) in
+    rw (e, next) is
+
+pub ruleset place_steps = (no_negative, no_zero, found_from_0)
 
 pub ruleset position_steps = (memory_fails, column_there, nothing_there)

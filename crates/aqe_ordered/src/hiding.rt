@@ -1,7 +1,9 @@
 //! What an expression of ORDER BY means that is not over the output columns.
 
 ghost use Rattle.std.specs.Prelude.{◌≡◌};
-ghost use Rattle.aqe_rules.specs.Faults.{Says};
+ghost use Rattle.aqe_base.specs.declared.status.AnalysisKind.TheVariants.{NoSuchColumn};
+ghost use Rattle.aqe_rules.specs.Faults.{Says, Tells};
+ghost use Rattle.aqe_rules.specs.Outcomes as outcomes;
 ghost use Rattle.aqe_rules.specs.Outcomes.{Outcome};
 ghost use Rattle.aqe_rules.specs.Plans as spec;
 ghost use Rattle.aqe_rules.specs.declared.typed.Typed.{Typed};
@@ -31,6 +33,17 @@ pub struct ShownAlone<'a> {
     pub outputs: &'a [Named],
 }
 
+/// The refusal of an aggregate call where no such column may stand. A name longer than a text finds no memory.
+fn call_refused(alloc: Global, name: &str) -> AnalysisFault
+    ensures { Tells result (outcomes.refused NoSuchColumn name.now) }
+{
+    if name.len() <= 67_108_864 {
+        refused(alloc, AnalysisKind::NoSuchColumn, name)
+    } else {
+        AnalysisFault::Memory
+    }
+}
+
 /// The refusal of what an expression mentions and no output column shows.
 #[tactic(auto, using(crate::proofs::HidingSteps::unknown_steps))]
 fn unknown(alloc: Global, mention: &Mention) -> Result<Typed, AnalysisFault>
@@ -39,7 +52,7 @@ fn unknown(alloc: Global, mention: &Mention) -> Result<Typed, AnalysisFault>
     match mention {
         Mention::Plain(name) => column_named(alloc, name, &[]),
         Mention::OfItem(table, name) => column_of_item(alloc, table, name, &[]),
-        Mention::Aggregate(name) => Err(refused(alloc, AnalysisKind::NoSuchColumn, name)),
+        Mention::Aggregate(name) => Err(call_refused(alloc, name)),
     }
 }
 

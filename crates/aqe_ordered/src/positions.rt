@@ -48,6 +48,7 @@ fn bad_position(alloc: Global, negative: bool, n: u64) -> AnalysisFault
 }
 
 /// The output column at a position, which counts from 1.
+#[tactic(auto, using(crate::proofs::PositionSteps::place_steps))]
 fn column_at<'a>(negative: bool, n: u64, outputs: &'a [Named]) -> Option<&'a Named>
     ensures { option_map (λ column. column.now) result ≡ positions.found negative n outputs.now }
 {
