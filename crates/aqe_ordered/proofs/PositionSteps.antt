@@ -45,7 +45,7 @@ no_negative negative n all e = rw e refl
 
 pub no_zero : (negative : Bool) (n : ℕ) (all : List Named) → negative ≡ false → n < 1 → None ≡ found negative n all
 no_zero negative zero all e lt = rw e refl
-no_zero negative (suc n) all e lt = absurd (omega (arith, lt))
+no_zero negative (suc n) all e lt = absurd (let no : ⊥ = omega (arith, lt) in no)
 
 pub found_from_0 : (negative : Bool) (n m : ℕ) (all : List Named) (o : Option Named) → negative ≡ false → m + 1 ≡ n → o ≡ slice_get all m → o ≡ found negative n all
 found_from_0 negative n m all o e h is =
