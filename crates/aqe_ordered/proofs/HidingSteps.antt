@@ -45,20 +45,26 @@ refusal_is : (outputs : List Named) (value : OrTree) (m : Option Mention) → se
 refusal_is outputs value m e = ap (λ (name : List ℕ). Err (refused NoSuchColumn name)) (told_first outputs (mentions_of value) ∙ ap told_name (sym e))
 
 module _ (outputs : List Named) (value : OrTree) (m : Option Mention) (e : seen m ≡ first_missing outputs (mentions_of value)) where
+  told_as : (k : Option Mention) → m ≡ k → no_hidden outputs value ≡ Err (refused NoSuchColumn (told_name (seen k)))
+  told_as k is = refusal_is outputs value m e ∙ ap (λ (x : Option Mention). Err (refused NoSuchColumn (told_name (seen x)))) is
+
   pub missing_told : (x : Mention) (r : Result Typed AnalysisFault) → m ≡ Some x → Says r (unknown x) → Says r (no_hidden outputs value)
-  missing_told x r is s = rw (refusal_is outputs value m e, is) s
+  missing_told x r is s = subst (λ (o : Outcome Typed). Says r o) (sym (told_as (Some x) is)) s
 
   pub nothing_told : (f : AnalysisFault) → m ≡ None → Tells f (refused NoSuchColumn []) → Fails f (no_hidden outputs value)
-  nothing_told f is t = rw (refusal_is outputs value m e, is) t
+  nothing_told f is t = subst (λ (o : Outcome Typed). Fails f o) (sym (told_as None is)) t
 
 pub ruleset refusal_steps = (memory_fails, missing_told, nothing_told)
 
 -- an expression is over the output columns where nothing is missing
+shown_step : (outputs : List Named) (m : looks.Mention) (ms : List looks.Mention) (b : Bool) → is_shown outputs m ≡ b → is_none (first_missing outputs ms) ≡ list_all (is_shown outputs) ms →
+    is_none (first_missing outputs (m ∷ ms)) ≡ list_all (is_shown outputs) (m ∷ ms)
+shown_step outputs m ms true e h = rw e h
+shown_step outputs m ms false e h = rw e refl
+
 none_missing : (outputs : List Named) (ms : List looks.Mention) → is_none (first_missing outputs ms) ≡ list_all (is_shown outputs) ms
 none_missing outputs [] = refl
-none_missing outputs (m ∷ ms) =
-    elim (is_shown outputs m) as (λ b. is_none (cond b (first_missing outputs ms) (Some m)) ≡ cond b (list_all (is_shown outputs) ms) false)
-    [ true ↦ none_missing outputs ms | false ↦ refl ]
+none_missing outputs (m ∷ ms) = shown_step outputs m ms (is_shown outputs m) refl (none_missing outputs ms)
 
 none_seen : (m : Option Mention) → is_none (seen m) ≡ is_none m
 none_seen None = refl
@@ -66,3 +72,7 @@ none_seen (Some x) = refl
 
 pub over_steps : (outputs : List Named) (value : OrTree) (m : Option Mention) → seen m ≡ first_missing outputs (mentions_of value) → is_none m ≡ is_over outputs value
 over_steps outputs value m e = sym (none_seen m) ∙ ap is_none e ∙ none_missing outputs (mentions_of value)
+
+pub not_some : (m : Option Mention) → not (is_some m) ≡ is_none m
+not_some None = refl
+not_some (Some x) = refl

@@ -87,7 +87,7 @@ module _ (hide : OrTree → Outcome Typed) (n : ℕ) (outputs : List Named) wher
 
 -- a plan that shows its own columns alone
 module _ (sorts : List SortTree) (plan : Logical) where
-  keys_then : (o : Outcome (List plans.Sorting)) → upon (upon (upon o (λ all. Ok (keys_of 0 all sorts, hidden_columns all))) (λ order. Ok order.0)) (λ keys. Ok (sorted_by keys plan)) ≡
+  keys_then : (o : Outcome (List plans.Sorting)) → upon (upon {T = Keys} (upon o (λ all. Ok (keys_of 0 all sorts, hidden_columns all))) (λ order. Ok order.0)) (λ keys. Ok (sorted_by keys plan)) ≡
       upon o (λ all. Ok (sorted_by (keys_of 0 all sorts) plan))
   keys_then (Ok all) = refl
   keys_then (Err check) = refl

@@ -1,6 +1,7 @@
 -- Plans in an order, and cut, as the code makes them.
-use Rattle.std.proofs.Common.{◌≡◌, ℕ, ◌==◌, ◌&&◌, Bool, true, false, not, List, [], ◌∷◌, length, Option, Some, None, Result, refl, ap, sym, subst, ◌∙◌, append-nil}
+use Rattle.std.proofs.Common.{◌≡◌, arith, ℕ, ◌==◌, ◌&&◌, Bool, true, false, not, List, [], ◌∷◌, length, Option, Some, None, Result, refl, ap, sym, subst, ◌∙◌, append-nil}
 use Rattle.std.specs.Prelude.{option_map, IfOk}
+use Rattle.std.proofs.lemmas.Bool.{eqb-true}
 use Rattle.std.specs.Option.{is_none, unwrap_or}
 use Rattle.aqe_values.specs.declared.schema.Field.{Field}
 use Rattle.aqe_expr.specs.declared.expr.Expr.{Expr}
@@ -24,7 +25,7 @@ column_steps fields result made = subst (λ (columns : List Named). Gives result
 -- a sort
 pub unsorted : (keys : List SortKey) (plan : Logical) → (length keys == 0) ≡ true → plan ≡ sorted_by keys plan
 unsorted [] plan e = refl
-unsorted (k ∷ ks) plan e = absurd (cc e)
+unsorted (k ∷ ks) plan e = absurd (let same : length (k ∷ ks) ≡ 0 = eqb-true (length (k ∷ ks)) 0 e in let no : ⊥ = omega (arith, same) in no)
 
 pub sorted_so : {E : Type 0} (keys : List SortKey) (plan : Logical) (result : Result Logical E) → (length keys == 0) ≡ false → IfOk result (λ p. p ≡ Sort keys plan) → IfOk result (λ p. p ≡ sorted_by keys plan)
 sorted_so [] plan result e made = absurd (cc e)

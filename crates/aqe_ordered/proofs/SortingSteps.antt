@@ -1,5 +1,6 @@
 -- What one expression sorts by, as the code finds it.
 use Rattle.std.proofs.Common.{◌≡◌, ℕ, List, Bool, true, false, cond, Option, Some, None, Result, Ok, Err, refl, ap, sym, subst, ◌∙◌}
+use Rattle.std.specs.Option.{unwrap_or}
 use Rattle.aqe_expr.specs.declared.expr.Expr.{Expr}
 use Rattle.aqe_trees.specs.declared.expression.OrTree.{OrTree}
 use Rattle.aqe_rules.specs.declared.fault.AnalysisFault.{AnalysisFault}
@@ -68,8 +69,9 @@ module _ (r : Result Sorting AnalysisFault) where
 -- a number alone, and what is none
 numbered_so : (hide : OrTree → Outcome Typed) (outputs : List Named) (value : OrTree) (alone : Alone) (negative : Bool) (n : ℕ) → number_of alone ≡ Some (negative, n) → plans.sorting hide outputs value alone ≡ sorting_at negative n outputs
 numbered_so hide outputs value (a_number b m) negative n e =
-    let first : b ≡ negative = cc e in
-    let second : m ≡ n = cc e in
+    let both : (b, m) ≡ (negative, n) = ap (λ (x : Option (Bool × ℕ)). unwrap_or x (b, m)) e in
+    let first : b ≡ negative = ap (λ (x : Bool × ℕ). x.0) both in
+    let second : m ≡ n = ap (λ (x : Bool × ℕ). x.1) both in
     rw (first, second) refl
 numbered_so hide outputs value a_column negative n e = absurd (cc e)
 numbered_so hide outputs value something negative n e = absurd (cc e)
