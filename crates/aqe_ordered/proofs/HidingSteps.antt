@@ -76,3 +76,7 @@ over_steps outputs value m e = sym (none_seen m) ∙ ap is_none e ∙ none_missi
 pub not_some : (m : Option Mention) → not (is_some m) ≡ is_none m
 not_some None = refl
 not_some (Some x) = refl
+
+pub turned : (a b : Bool) → a ≡ not b → b ≡ not a
+turned a true e = rw e refl
+turned a false e = rw e refl
