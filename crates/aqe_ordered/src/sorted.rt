@@ -72,8 +72,10 @@ fn keys_over(alloc: Global, sorts: &[SortTree], plan: &Logical) -> Result<SortKe
     let fields = schema_of(alloc, plan)?;
     let columns = shown_columns(alloc, fields)?;
     let outputs = columns.slice();
-    let order = order_of(alloc, &ShownAlone { outputs }, 0, outputs, sorts)?;
-    Ok(order.keys)
+    match order_of(alloc, &ShownAlone { outputs }, 0, outputs, sorts) {
+        Ok(order) => Ok(order.keys),
+        Err(fault) => Err(fault),
+    }
 }
 
 /// A plan that shows its own columns alone, in the order of an ORDER BY: a union, or a query in parentheses.
