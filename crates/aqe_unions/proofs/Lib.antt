@@ -1,0 +1,4 @@
+pub mod ColumnSteps
+pub mod KindSteps
+pub mod SideSteps
+pub mod UnionSteps
