@@ -1,0 +1,3 @@
+pub mod AddedSteps
+pub mod CallLevels
+pub mod Once
