@@ -30,7 +30,7 @@ use Rattle.aqe_stages.specs.Parts.{parts, given_by, all, cells, file_rows}
 use Rattle.aqe_stages.specs.Reads.{some_maps, rect_needs}
 use Rattle.aqe_stages.specs.Runnable.{OfStage, CanRun, Narrow, NarrowKeys, reducers_of}
 use Rattle.aqe_task.specs.Tasks.{IsKept, IsMet}
-use Rattle.aqe_trial.specs.Serving.{HasCells, IsHeld, IsReady, Holds, Ready, Follows}
+use Rattle.aqe_trial.specs.Serving.{HasCells, IsHeld, IsReady, IsReadyAnywhere, Holds, Ready, Follows}
 
 -- what a body that runs asks of each plan within it
 abbrev Runs : Tables → Stages → Plan → Type 0
@@ -71,37 +71,43 @@ alone tables stages node width e few wide can =
     subst (All (Runs tables stages)) (sym e) (All-cons (Runs tables stages) node [] (can, narrow width (all tables stages node) few wide) (All-nil (Runs tables stages)))
 
 pub filter_follows : (p : Plan) (c : Expr) (q : Plan) (n w : ℕ) → p ≡ Filter c q → Follows q n w p n w
-filter_follows p c q n w e tables held maps (stages, r) =
-    let wide : HaveWidth w (all tables stages (shape.kept c q)) =
-    step_all (λ row. length row ≡ w) (λ row. length row ≡ w) (filter (holds c)) (λ rows. All-filter (holds c) (λ row. length row ≡ w) rows) (parts tables (given_by tables stages) q) r.wide in
-    (stages, subst (λ (x : Plan). IsReady tables stages held maps x n w) (sym (e ∙ is_kept c q)) (record {
-      bare = r.bare;
-      built = r.built;
-      runs = over tables stages (shape.kept c q) q w refl r.few wide tt r.runs;
-      reads = r.reads;
-      count = r.count;
-      wide = wide;
-      few = r.few;
-    }))
+filter_follows p c q n w e = record { follow = λ tables held maps h. record { stages = h.stages; is = at tables h.stages held maps h.is } }
+  where
+    at : (tables : Tables) (stages : Stages) (held : AllKept) (maps : ℕ) → IsReady tables stages held maps q n w → IsReady tables stages held maps p n w
+    at tables stages held maps r =
+        let wide : HaveWidth w (all tables stages (shape.kept c q)) =
+        step_all (λ row. length row ≡ w) (λ row. length row ≡ w) (filter (holds c)) (λ rows. All-filter (holds c) (λ row. length row ≡ w) rows) (parts tables (given_by tables stages) q) r.wide in
+        subst (λ (x : Plan). IsReady tables stages held maps x n w) (sym (e ∙ is_kept c q)) (record {
+          bare = r.bare;
+          built = r.built;
+          runs = over tables stages (shape.kept c q) q w refl r.few wide tt r.runs;
+          reads = r.reads;
+          count = r.count;
+          wide = wide;
+          few = r.few;
+        })
 
 projected_wide : (items : List Expr) (v : ℕ) → v ≡ length items → (rows : List Row) → HaveWidth v (map (row_of items) rows)
 projected_wide items v f rows =
     All-map (λ row. length row ≡ v) (row_of items) rows (every (λ row. length (row_of items row) ≡ v) (λ row. length-map items (val row) ∙ sym f) rows)
 
 pub project_follows : (p : Plan) (items : List Expr) (q : Plan) (n w v : ℕ) → p ≡ Project items q → v ≡ length items → length items ≤ 256 → Follows q n w p n v
-project_follows p items q n w v e f few tables held maps (stages, r) =
-    let wide : HaveWidth v (all tables stages (shape.mapped items q)) =
-    step_all (λ row. length row ≡ w) (λ row. length row ≡ v) (map (row_of items)) (λ rows h. projected_wide items v f rows) (parts tables (given_by tables stages) q) r.wide in
-    let low : v ≤ 256 = omega (arith, few, f) in
-    (stages, subst (λ (x : Plan). IsReady tables stages held maps x n v) (sym (e ∙ is_mapped items q)) (record {
-      bare = r.bare;
-      built = r.built;
-      runs = over tables stages (shape.mapped items q) q v refl low wide tt r.runs;
-      reads = r.reads;
-      count = r.count;
-      wide = wide;
-      few = low;
-    }))
+project_follows p items q n w v e f few = record { follow = λ tables held maps h. record { stages = h.stages; is = at tables h.stages held maps h.is } }
+  where
+    at : (tables : Tables) (stages : Stages) (held : AllKept) (maps : ℕ) → IsReady tables stages held maps q n w → IsReady tables stages held maps p n v
+    at tables stages held maps r =
+        let wide : HaveWidth v (all tables stages (shape.mapped items q)) =
+        step_all (λ row. length row ≡ w) (λ row. length row ≡ v) (map (row_of items)) (λ rows h. projected_wide items v f rows) (parts tables (given_by tables stages) q) r.wide in
+        let low : v ≤ 256 = omega (arith, few, f) in
+        subst (λ (x : Plan). IsReady tables stages held maps x n v) (sym (e ∙ is_mapped items q)) (record {
+          bare = r.bare;
+          built = r.built;
+          runs = over tables stages (shape.mapped items q) q v refl low wide tt r.runs;
+          reads = r.reads;
+          count = r.count;
+          wide = wide;
+          few = low;
+        })
 
 -- groups have a value for each key and call
 distinct_all : (P : Row → Type 0) (ks : List Row) → All P ks → All P (distinct ks)
@@ -126,20 +132,23 @@ groups_wide keys calls v f rows =
 
 pub partial_follows : (p : Plan) (keys : List Expr) (calls : List AggCall) (q : Plan) (n w v : ℕ) → p ≡ PartialAgg keys calls q
     → v ≡ length keys + length calls → length keys ≤ 100 → length calls ≤ 100 → Follows q n w p n v
-partial_follows p keys calls q n w v e f few some tables held maps (stages, r) =
-    let wide : HaveWidth v (all tables stages (shape.grouped keys calls q)) =
-    step_all (λ row. length row ≡ w) (λ row. length row ≡ v) (partial_rows (length keys) (row_of keys) calls) (λ rows h. groups_wide keys calls v f rows) (parts tables (given_by tables stages) q) r.wide in
-    let low : v ≤ 256 = omega (arith, few, some, f) in
-    let keys_low : length keys ≤ 256 = omega (arith, few) in
-    (stages, subst (λ (x : Plan). IsReady tables stages held maps x n v) (sym (e ∙ is_grouped keys calls q)) (record {
-      bare = r.bare;
-      built = r.built;
-      runs = over tables stages (shape.grouped keys calls q) q v refl low wide (narrow_keys keys (all tables stages q) keys_low) r.runs;
-      reads = r.reads;
-      count = r.count;
-      wide = wide;
-      few = low;
-    }))
+partial_follows p keys calls q n w v e f few some = record { follow = λ tables held maps h. record { stages = h.stages; is = at tables h.stages held maps h.is } }
+  where
+    at : (tables : Tables) (stages : Stages) (held : AllKept) (maps : ℕ) → IsReady tables stages held maps q n w → IsReady tables stages held maps p n v
+    at tables stages held maps r =
+        let wide : HaveWidth v (all tables stages (shape.grouped keys calls q)) =
+        step_all (λ row. length row ≡ w) (λ row. length row ≡ v) (partial_rows (length keys) (row_of keys) calls) (λ rows h. groups_wide keys calls v f rows) (parts tables (given_by tables stages) q) r.wide in
+        let low : v ≤ 256 = omega (arith, few, some, f) in
+        let keys_low : length keys ≤ 256 = omega (arith, few) in
+        subst (λ (x : Plan). IsReady tables stages held maps x n v) (sym (e ∙ is_grouped keys calls q)) (record {
+          bare = r.bare;
+          built = r.built;
+          runs = over tables stages (shape.grouped keys calls q) q v refl low wide (narrow_keys keys (all tables stages q) keys_low) r.runs;
+          reads = r.reads;
+          count = r.count;
+          wide = wide;
+          few = low;
+        })
 
 -- what is finished has a value for each call
 values_finished : (i : ℕ) (calls : List AggCall) (rows : List Row) → length (finished i calls rows) ≡ length calls
@@ -160,25 +169,28 @@ finish_wide n calls w f rows h =
     (group_keys n (map (take n) rows)) (keys_wide n (map (take n) rows) cut))
 
 pub final_follows : (p : Plan) (keys : ℕ) (calls : List AggCall) (q : Plan) (n w : ℕ) → p ≡ FinalAgg keys calls q → w ≡ keys + length calls → Follows q n w p n w
-final_follows p keys calls q n w e f tables held maps (stages, r) =
-    let wide : HaveWidth w (all tables stages (shape.finished keys calls q)) =
-    step_all (λ row. length row ≡ w) (λ row. length row ≡ w) (finish_rows keys calls) (finish_wide keys calls w f) (parts tables (given_by tables stages) q) r.wide in
-    let can : HaveWidth (keys + length calls) (all tables stages q) = subst (λ (m : ℕ). HaveWidth m (all tables stages q)) f r.wide in
-    (stages, subst (λ (x : Plan). IsReady tables stages held maps x n w) (sym (e ∙ is_finished keys calls q)) (record {
-      bare = r.bare;
-      built = r.built;
-      runs = over tables stages (shape.finished keys calls q) q w refl r.few wide can r.runs;
-      reads = r.reads;
-      count = r.count;
-      wide = wide;
-      few = r.few;
-    }))
+final_follows p keys calls q n w e f = record { follow = λ tables held maps h. record { stages = h.stages; is = at tables h.stages held maps h.is } }
+  where
+    at : (tables : Tables) (stages : Stages) (held : AllKept) (maps : ℕ) → IsReady tables stages held maps q n w → IsReady tables stages held maps p n w
+    at tables stages held maps r =
+        let wide : HaveWidth w (all tables stages (shape.finished keys calls q)) =
+        step_all (λ row. length row ≡ w) (λ row. length row ≡ w) (finish_rows keys calls) (finish_wide keys calls w f) (parts tables (given_by tables stages) q) r.wide in
+        let can : HaveWidth (keys + length calls) (all tables stages q) = subst (λ (m : ℕ). HaveWidth m (all tables stages q)) f r.wide in
+        subst (λ (x : Plan). IsReady tables stages held maps x n w) (sym (e ∙ is_finished keys calls q)) (record {
+          bare = r.bare;
+          built = r.built;
+          runs = over tables stages (shape.finished keys calls q) q w refl r.few wide can r.runs;
+          reads = r.reads;
+          count = r.count;
+          wide = wide;
+          few = r.few;
+        })
 
 -- the leaves that read nothing are ready over no stage
-pub one_row_ready : (tables : Tables) (held : AllKept) (maps : ℕ) → Ready tables held maps OneRow 1 0
-one_row_ready tables held maps =
+one_row_at : (tables : Tables) (held : AllKept) (maps : ℕ) → Ready tables held maps OneRow 1 0
+one_row_at tables held maps =
     let wide : HaveWidth 0 (all tables [] OneRow) = All-cons (λ (row : Row). length row ≡ 0) [] [] refl (All-nil (λ (row : Row). length row ≡ 0)) in
-    ([], record {
+    record { stages = []; is = record {
       bare = λ e. refl;
       built = refl;
       runs = alone tables [] OneRow 0 refl (omega arith) wide tt;
@@ -186,16 +198,16 @@ one_row_ready tables held maps =
       count = refl;
       wide = wide;
       few = omega arith;
-    })
+    } }
 
 no_rows : (P : Row → Type 0) (n : ℕ) → All P (joined_parts (replicate n []))
 no_rows P zero = All-nil P
 no_rows P (suc n) = no_rows P n
 
-pub nothing_ready : (tables : Tables) (held : AllKept) (maps parts width : ℕ) → width ≤ 256 → Ready tables held maps (Nothing parts width) parts width
-nothing_ready tables held maps count width few =
+nothing_at : (tables : Tables) (held : AllKept) (maps parts width : ℕ) → width ≤ 256 → Ready tables held maps (Nothing parts width) parts width
+nothing_at tables held maps count width few =
     let wide : HaveWidth width (all tables [] (Nothing count width)) = no_rows (λ (row : Row). length row ≡ width) count in
-    ([], record {
+    record { stages = []; is = record {
       bare = λ e. refl;
       built = refl;
       runs = alone tables [] (Nothing count width) width refl few wide tt;
@@ -203,7 +215,7 @@ nothing_ready tables held maps count width few =
       count = refl;
       wide = wide;
       few = few;
-    })
+    } }
 
 files_all : (P : Row → Type 0) (tables : Tables) (table : ℕ) → All P (table_rows tables table) → (ks : List ℕ) → All P (joined_parts (map (file_rows tables table) ks))
 files_all P tables table h [] = All-nil P
@@ -214,7 +226,7 @@ pub scan_ready : (tables : Tables) (held : AllKept) (maps files parts : ℕ) →
     → HaveWidth 2 (table_rows tables 0) → Ready tables held maps (Scan 0 files) parts 2
 scan_ready tables held maps files count there e f h =
     let wide : HaveWidth 2 (all tables [] (Scan 0 files)) = files_all (λ (row : Row). length row ≡ 2) tables 0 h (range_with_len 0 (max 1 files)) in
-    ([], record {
+    record { stages = []; is = record {
       bare = λ e. refl;
       built = refl;
       runs = alone tables [] (Scan 0 files) 2 refl (omega arith) wide (there, e);
@@ -222,7 +234,7 @@ scan_ready tables held maps files count there e f h =
       count = f;
       wide = wide;
       few = omega arith;
-    })
+    } }
 
 -- a cell of what is held, the cells of a rectangle, and what rectangles read
 cell_all : (P : Row → Type 0) (output : Output) → All P (all_rows output) → (m r : ℕ) → All P (cell output m r)
@@ -267,14 +279,28 @@ zeroth = record { 0 = 0 }
 
 pub read_ready : (tables : Tables) (held : AllKept) (maps reducers width parts : ℕ) (rects : List Rect) → 0 < maps → Holds tables held maps reducers width
     → All (LiesWithin maps reducers) rects → parts ≡ length rects → Ready tables held maps (Read zeroth maps reducers rects) parts width
-read_ready tables held maps reducers width count rects some (stages, h) within f =
-    let wide : HaveWidth width (all tables stages (Read zeroth maps reducers rects)) = rects_all (λ (row : Row). length row ≡ width) (cells tables stages 0) h.wide rects in
-    (stages, record {
-      bare = h.bare;
+read_ready tables held maps reducers width count rects some h within f =
+    let wide : HaveWidth width (all tables h.stages (Read zeroth maps reducers rects)) = rects_all (λ (row : Row). length row ≡ width) (cells tables h.stages 0) h.are.wide rects in
+    record { stages = h.stages; is = record {
+      bare = h.are.bare;
       built = refl;
-      runs = alone tables stages (Read zeroth maps reducers rects) width refl h.few wide (of_first stages maps reducers rects (h.first some) within);
-      reads = needs_met tables stages held maps reducers zeroth refl h.each rects within;
+      runs = alone tables h.stages (Read zeroth maps reducers rects) width refl h.are.few wide (of_first h.stages maps reducers rects (h.are.first some) within);
+      reads = needs_met tables h.stages held maps reducers zeroth refl h.are.each rects within;
       count = f;
       wide = wide;
-      few = h.few;
-    })
+      few = h.are.few;
+    } }
+
+pub one_row_ready : IsReadyAnywhere OneRow 1 0
+one_row_ready = record { ready = λ tables held maps. one_row_at tables held maps }
+
+pub nothing_ready : (parts width : ℕ) → width ≤ 256 → IsReadyAnywhere (Nothing parts width) parts width
+nothing_ready parts width few = record { ready = λ tables held maps. nothing_at tables held maps parts width few }
+
+-- what is ready anywhere is ready here, and what follows a ready body is ready
+pub ready_here : (tables : Tables) (held : AllKept) (maps : ℕ) (body : Plan) (parts width : ℕ) → IsReadyAnywhere body parts width → Ready tables held maps body parts width
+ready_here tables held maps body parts width h = h.ready tables held maps
+
+pub ready_after : (tables : Tables) (held : AllKept) (maps : ℕ) (before : Plan) (parts width : ℕ) (after : Plan) (more wide : ℕ) → Follows before parts width after more wide
+    → Ready tables held maps before parts width → Ready tables held maps after more wide
+ready_after tables held maps before parts width after more wide f h = f.follow tables held maps h

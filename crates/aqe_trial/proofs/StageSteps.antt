@@ -34,8 +34,10 @@ use Rattle.aqe_stages.specs.Parts.{parts, given_by, all, cells}
 use Rattle.aqe_stages.specs.Reads.{needs, task_needs}
 use Rattle.aqe_stages.specs.Runnable.{CanKeep, reducers_of}
 use Rattle.aqe_stages.proofs.Counted.{counted}
-use Rattle.aqe_task.specs.Built.{IsBuiltKind}
-use Rattle.aqe_task.specs.Tasks.{IsKept, IsMet, IsServedTask, task_cells}
+use Rattle.aqe_task.specs.Built.{IsBuiltBody, IsBuiltKind}
+use Rattle.aqe_task.specs.Tasks.{IsKept, IsMet, IsServedTask, GivesTask, task_cells}
+use Rattle.aqe_expr.specs.declared.expr.Expr.{Expr}
+use Rattle.aqe_trial.proofs.BodySteps.{narrow_keys, scan_ready}
 use Rattle.aqe_trial.specs.Serving.{HasTable, HasCells, IsHeld, IsReady, IsEasy, Holds, Ready, IsKeptBelow}
 
 -- what holds of all rows holds of those that an exchange sends, and of those that a stage keeps
@@ -105,14 +107,14 @@ one_more tables k body old new m made built h e changes becomes = record {
 -- where the outputs of all maps are kept, they are what the stage holds
 pub stage_holds : (tables : Tables) (bare : AllKept) (k : StageKind) (body : Plan) (held : AllKept) (maps reducers width : ℕ) → IsBuiltKind k → Ready tables bare 0 body maps width
     → IsKeptBelow tables k body held maps → reducers ≡ reducers_of k → 0 < maps → Holds tables held maps reducers width
-stage_holds tables bare k body held maps reducers width built (stages, r) h e some = (one k body, record {
+stage_holds tables bare k body held maps reducers width built r h e some = record { stages = one k body; are = record {
   bare = λ no. absurd (let wrong : ⊥ = omega (arith, no, some) in wrong);
-  first = λ lt. (r.count, e);
-  each = λ m lt. h.each m lt ∙ ap (λ (cs : List CellData). Some cs) (sym (held_cells tables k body m (subst (λ (n : ℕ). m < n) r.count lt)));
+  first = λ lt. (r.is.count, e);
+  each = λ m lt. h.each m lt ∙ ap (λ (cs : List CellData). Some cs) (sym (held_cells tables k body m (subst (λ (n : ℕ). m < n) r.is.count lt)));
   wide = kept_all (λ (row : Row). length row ≡ width) [] k (parts tables [] body) (parts tables [] body) built
-      (subst (λ (s : Stages). HaveWidth width (all tables s body)) (r.bare refl) r.wide);
-  few = r.few;
-})
+      (subst (λ (s : Stages). HaveWidth width (all tables s body)) (r.is.bare refl) r.is.wide);
+  few = r.is.few;
+} }
 
 -- the task of a ready body is served, where the kind is easy
 task_met : (tables : Tables) (stages : Stages) (held : AllKept) (k : StageKind) (body : Plan) (n : ℕ) → IsBuiltKind k → All (IsMet tables stages held) (needs body n)
@@ -129,23 +131,64 @@ served_over : (tables : Tables) (stages : Stages) (held : AllKept) (maps : ℕ) 
     → IsServedTask tables stages held k body n
 served_over tables stages held maps k body count width n r easy lt = record {
   runs = r.runs;
-  keeps = easy.1 stages (all tables stages body);
+  keeps = easy.keeps stages (all tables stages body);
   within = subst (λ (c : ℕ). n < c) r.count lt;
-  reads = task_met tables stages held k body n easy.0 (r.reads n);
+  reads = task_met tables stages held k body n easy.built (r.reads n);
 }
 
 pub task_served : (tables : Tables) (held : AllKept) (maps : ℕ) (k : StageKind) (body : Plan) (count width n : ℕ) → Ready tables held maps body count width → IsEasy k → n < count
     → (stages : Stages) × IsServedTask tables stages held k body n
-task_served tables held maps k body count width n (stages, r) easy lt = (stages, served_over tables stages held maps k body count width n r easy lt)
+task_served tables held maps k body count width n r easy lt = (r.stages, served_over tables r.stages held maps k body count width n r.is easy lt)
 
 -- over no stage
 pub bare_served : (tables : Tables) (held : AllKept) (k : StageKind) (body : Plan) (count width n : ℕ) → Ready tables held 0 body count width → IsEasy k → n < count
     → IsServedTask tables [] held k body n
-bare_served tables held k body count width n (stages, r) easy lt =
-    subst (λ (s : Stages). IsServedTask tables s held k body n) (r.bare refl) (served_over tables stages held 0 k body count width n r easy lt)
+bare_served tables held k body count width n r easy lt =
+    subst (λ (s : Stages). IsServedTask tables s held k body n) (r.is.bare refl) (served_over tables r.stages held 0 k body count width n r.is easy lt)
+
+-- what a task gives over no stage can be kept beside the others
+pub given_fits : (tables : Tables) (bare held : AllKept) (k : StageKind) (body : Plan) (count width m : ℕ) (made : List CellData) → Ready tables bare 0 body count width → IsEasy k → m < count
+    → GivesTask tables bare k body m made → IsKeptBelow tables k body held m → HaveCells (length made) (kept_of held 0)
+given_fits tables bare held k body count width m made r easy lt gives h =
+    made_fits tables k body held m made easy.built h (gives [] (bare_served tables bare k body count width m r easy lt))
+
+pub given_more : (tables : Tables) (bare old new : AllKept) (k : StageKind) (body : Plan) (count width m : ℕ) (made : List CellData) → Ready tables bare 0 body count width → IsEasy k → m < count
+    → GivesTask tables bare k body m made → IsKeptBelow tables k body old m → Changes old new 0 m (Some made) → Becomes old new 0 (with_output (kept_of old 0) m made)
+    → IsKeptBelow tables k body new (m + 1)
+given_more tables bare old new k body count width m made r easy lt gives h changes becomes =
+    one_more tables k body old new m made easy.built h (gives [] (bare_served tables bare k body count width m r easy lt)) changes becomes
+
+pub ready_built : (tables : Tables) (held : AllKept) (maps : ℕ) (body : Plan) (count width : ℕ) → Ready tables held maps body count width → IsBuiltBody body
+ready_built tables held maps body count width r = r.is.built
 
 pub built_kind : (k : StageKind) → IsEasy k → IsBuiltKind k
-built_kind k easy = easy.0
+built_kind k easy = easy.built
+
+-- no stage is there before one is made
+pub nothing_held : (tables : Tables) (held : AllKept) → Holds tables held 0 0 0
+nothing_held tables held = record { stages = []; are = record {
+  bare = λ e. refl;
+  first = λ lt. absurd (let no : ⊥ = omega (arith, lt) in no);
+  each = λ m lt. absurd (let no : ⊥ = omega (arith, lt) in no);
+  wide = All-nil (λ (row : Row). length row ≡ 0);
+  few = omega arith;
+} }
+
+-- kinds that keep any rows
+pub single_easy : IsEasy (kind.Shuffle Single)
+single_easy = record { built = refl; keeps = λ stages rows. tt }
+
+pub to_all_easy : IsEasy (kind.Shuffle Broadcast)
+to_all_easy = record { built = refl; keeps = λ stages rows. tt }
+
+pub broadcast_easy : IsEasy kind.Broadcast
+broadcast_easy = record { built = refl; keeps = λ stages rows. tt }
+
+pub result_easy : IsEasy kind.Result
+result_easy = record { built = refl; keeps = λ stages rows. tt }
+
+pub hash_easy : (keys : List Expr) (n : ℕ) → length keys ≤ 100 → 0 < n → IsEasy (kind.Shuffle (Hash keys n))
+hash_easy keys n few some = record { built = refl; keeps = λ stages rows. (some, narrow_keys keys rows (omega (arith, few))) }
 
 -- a table that was loaded as it was created
 rows_wide : (n : ℕ) → n ≡ 2 → (files : List (List Row)) → All (HaveWidth n) files → HaveWidth 2 (joined_parts files)
@@ -169,3 +212,9 @@ pub files_there : (slots : Slots) (files : ℕ) → IsLoaded slots 0 → IfSome 
 files_there [] files loaded h = cc loaded
 files_there (None ∷ slots) files loaded h = cc loaded
 files_there (Some table ∷ slots) files loaded h = (omega arith, h)
+
+pub scan_here : (slots : Slots) (held : AllKept) (maps files count : ℕ) → HasTable slots → IfSome (table_at slots 0) (λ (loaded : Table). files ≡ length loaded.files)
+    → count ≡ max 1 files → Ready (tables_of slots) held maps (Scan 0 files) count 2
+scan_here slots held maps files count table h e =
+    let there = files_there slots files table.loaded h in
+    scan_ready (tables_of slots) held maps files count there.0 there.1 e table.wide

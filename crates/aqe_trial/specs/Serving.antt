@@ -48,24 +48,26 @@ pub record IsReady (tables : Tables) (stages : Stages) (held : AllKept) (maps : 
   pub few : width ≤ 256
 
 -- the same over some stages
-abbrev pub Holds : Tables → AllKept → ℕ → ℕ → ℕ → Type 0
-Holds tables held maps reducers width = (stages : Stages) × IsHeld tables stages held maps reducers width
+pub record Holds (tables : Tables) (held : AllKept) (maps reducers width : ℕ) : Type 0 where
+  pub stages : Stages
+  pub are : IsHeld tables stages held maps reducers width
 
-abbrev pub Ready : Tables → AllKept → ℕ → Plan → ℕ → ℕ → Type 0
-Ready tables held maps body parts width = (stages : Stages) × IsReady tables stages held maps body parts width
+pub record Ready (tables : Tables) (held : AllKept) (maps : ℕ) (body : Plan) (parts width : ℕ) : Type 0 where
+  pub stages : Stages
+  pub is : IsReady tables stages held maps body parts width
 
--- a body that is ready over all tables, whatever is kept
-abbrev pub IsReadyAnywhere : Plan → ℕ → ℕ → Type 0
-IsReadyAnywhere body parts width = (tables : Tables) (held : AllKept) (maps : ℕ) → Ready tables held maps body parts width
+-- a body is ready over all tables, whatever is kept
+pub record IsReadyAnywhere (body : Plan) (parts width : ℕ) : Type 0 where
+  pub ready : (tables : Tables) (held : AllKept) (maps : ℕ) → Ready tables held maps body parts width
 
 -- wherever one body is ready, another is
-abbrev pub Follows : Plan → ℕ → ℕ → Plan → ℕ → ℕ → Type 0
-Follows before parts width after more wide = (tables : Tables) (held : AllKept) (maps : ℕ) →
-    Ready tables held maps before parts width → Ready tables held maps after more wide
+pub record Follows (before : Plan) (parts width : ℕ) (after : Plan) (more wide : ℕ) : Type 0 where
+  pub follow : (tables : Tables) (held : AllKept) (maps : ℕ) → Ready tables held maps before parts width → Ready tables held maps after more wide
 
 -- a kind of stage is carried out, and can keep any rows
-abbrev pub IsEasy : StageKind → Type 0
-IsEasy kind = IsBuiltKind kind × ((stages : Stages) (rows : List Row) → CanKeep stages kind rows)
+pub record IsEasy (kind : StageKind) : Type 0 where
+  pub built : IsBuiltKind kind
+  pub keeps : (stages : Stages) (rows : List Row) → CanKeep stages kind rows
 
 -- of the maps below a number of stage 0, of this kind and body, the cells are kept
 pub record IsKeptBelow (tables : Tables) (kind : StageKind) (body : Plan) (held : AllKept) (n : ℕ) : Type 0 where

@@ -1,6 +1,6 @@
 //! Bodies of stages that tests run, each with what a task relies on.
 
-ghost use Rattle.std.specs.Prelude.{◌≡◌, ◌≤◌, ◌<◌, length, All, IfOk};
+ghost use Rattle.std.specs.Prelude.{◌≡◌, ◌≤◌, ◌<◌, length, max, All, IfOk};
 ghost use Rattle.aqe_lists.specs.LoadedTables.{tables_of};
 ghost use Rattle.aqe_rects.specs.Rectangles.{LiesWithin};
 ghost use Rattle.aqe_trial.specs.Serving.{Follows, HasTable, Holds, IsReadyAnywhere, Ready};
@@ -61,7 +61,14 @@ fn nothing() -> Body
     }
 }
 
+fn at_least_one(number: u32) -> u32
+    ensures { result ≡ max 1 number }
+{
+    number.max(1)
+}
+
 /// The rows of table 0.
+#[tactic(auto, using(crate::proofs::StageSteps::scan_here))]
 fn scan(ground: &Ground) -> Body
     requires { HasTable ground.now.tables }
     ensures { Ready (tables_of ground.now.tables) ground.now.outputs ground.now.maps result.plan result.parts result.width }
@@ -69,7 +76,7 @@ fn scan(ground: &Ground) -> Body
     let files = ground.tables.files(0);
     Body {
         plan: Plan::Scan { table: 0, files },
-        parts: files.max(1),
+        parts: at_least_one(files),
         width: 2,
     }
 }
@@ -100,6 +107,7 @@ fn rects_of(
 }
 
 /// What rectangles of the cells of stage 0 hold.
+#[tactic(auto, using(crate::proofs::BodySteps::read_ready))]
 fn read(alloc: Global, ground: &Ground, corners: &[Corners]) -> Result<Body, Fail>
     requires { Holds (tables_of ground.now.tables) ground.now.outputs ground.now.maps ground.now.reducers ground.now.width }
     ensures { IfOk result (λ body. Ready (tables_of ground.now.tables) ground.now.outputs ground.now.maps body.plan body.parts body.width) }
@@ -122,6 +130,7 @@ fn read(alloc: Global, ground: &Ground, corners: &[Corners]) -> Result<Body, Fai
 }
 
 /// A body without a body below it.
+#[tactic(auto, using(crate::proofs::BodySteps::ready_here))]
 fn leaf(alloc: Global, ground: &Ground, corners: &[Corners], word: &str) -> Result<Body, Fail>
     requires table { HasTable ground.now.tables }
     requires stage { Holds (tables_of ground.now.tables) ground.now.outputs ground.now.maps ground.now.reducers ground.now.width }
@@ -167,6 +176,7 @@ fn above_one(alloc: Global) -> Result<Expr, Memory> {
 }
 
 /// The rows whose first column is above 1.
+#[tactic(auto, using(crate::proofs::BodySteps::filter_follows))]
 fn filtered(alloc: Global, child: Body) -> Result<Body, Fail>
     ensures { IfOk result (λ body. Follows child.plan child.parts child.width body.plan body.parts body.width) }
 {
@@ -177,6 +187,7 @@ fn filtered(alloc: Global, child: Body) -> Result<Body, Fail>
 }
 
 /// The second column and then the first one.
+#[tactic(auto, using(crate::proofs::BodySteps::project_follows))]
 fn projected(alloc: Global, child: Body) -> Result<Body, Fail>
     ensures { IfOk result (λ body. Follows child.plan child.parts child.width body.plan body.parts body.width) }
 {
@@ -191,6 +202,7 @@ fn projected(alloc: Global, child: Body) -> Result<Body, Fail>
 }
 
 /// The partial rows of counts and sums by columns.
+#[tactic(auto, using(crate::proofs::BodySteps::partial_follows))]
 fn grouped(alloc: Global, keys: &[u32], child: Body) -> Result<Body, Fail>
     ensures { IfOk result (λ body. Follows child.plan child.parts child.width body.plan body.parts body.width) }
 {
@@ -206,6 +218,7 @@ fn grouped(alloc: Global, keys: &[u32], child: Body) -> Result<Body, Fail>
 }
 
 /// The groups of partial rows of so many keys.
+#[tactic(auto, using(crate::proofs::BodySteps::final_follows))]
 fn finished(alloc: Global, keys: u32, child: Body) -> Result<Body, Fail>
     ensures { IfOk result (λ body. Follows child.plan child.parts child.width body.plan body.parts body.width) }
 {
@@ -234,6 +247,7 @@ fn step(alloc: Global, word: &str, child: Body) -> Result<Body, Fail>
 }
 
 /// The body of a leaf and steps over it, with words between blanks. A read reads these rectangles.
+#[tactic(auto, using(crate::proofs::BodySteps::ready_here, crate::proofs::BodySteps::ready_after))]
 pub fn body_of(
     alloc: Global,
     ground: &Ground,

@@ -29,6 +29,7 @@ fn cells_text(alloc: Global, output: &MapOutput) -> Result<String, Fail> {
 }
 
 /// The cells that a task gives.
+#[tactic(auto, using(crate::proofs::StageSteps::ready_built, crate::proofs::StageSteps::built_kind))]
 fn given(alloc: Global, ground: &Ground, body: &Body, kind: &str, k: u32) -> Result<String, Fail>
     requires { Ready (tables_of ground.now.tables) ground.now.outputs ground.now.maps body.now.plan body.now.parts body.now.width }
 {
@@ -64,76 +65,69 @@ fn cells_of(
     given(alloc, &ground, &made, body.1, k)
 }
 
+/// Bodies and kinds by their words, a task, and the cells that it gives.
+static CASES: [(&str, &str, u32, &str); 23] = [
+    ("one", "result", 0, ";|"),
+    ("scan", "result", 0, "1,10;2,20;1,5;6,1;|"),
+    ("scan", "result", 1, "|"),
+    ("scan", "hash", 0, "|6,1;|2,20;|1,10;1,5;|"),
+    ("scan", "hash", 1, "||||"),
+    ("scan", "hash", 2, "|6,7;|2,~;~,4;||"),
+    ("scan", "single", 2, "2,~;~,4;6,7;|"),
+    ("scan", "to-all", 2, "2,~;~,4;6,7;|"),
+    ("scan", "broadcast", 2, "2,~;~,4;6,7;|"),
+    ("scan filter", "result", 0, "2,20;6,1;|"),
+    ("scan filter", "result", 2, "2,~;6,7;|"),
+    ("scan project", "result", 2, "~,2;4,~;7,6;|"),
+    ("one project", "result", 0, "~,~;|"),
+    ("scan partial", "result", 0, "1,2L,15L;2,1L,20L;6,1L,1L;|"),
+    ("scan partial", "result", 1, "|"),
+    ("scan partial", "hash", 2, "|6,1L,7L;|2,0L,~;~,1L,4L;||"),
+    ("scan partial-all", "result", 0, "4L,36L;|"),
+    ("scan partial-all", "result", 1, "0L,~;|"),
+    ("nothing", "result", 1, "|"),
+    ("nothing", "hash", 0, "||||"),
+    ("nothing filter project", "result", 0, "|"),
+    ("nothing partial-all", "result", 0, "0L,~;|"),
+    ("nothing partial", "result", 0, "|"),
+];
+
 #[test]
 fn a_task_gives_the_cells_of_its_part(rt: HostRuntime) -> Result<(), Fail> {
     let alloc = rt.alloc();
-    let none = ("one", "result");
-    for (body, kind, k, cells) in [
-        ("one", "result", 0, ";|"),
-        ("scan", "result", 0, "1,10;2,20;1,5;6,1;|"),
-        ("scan", "result", 1, "|"),
-        ("scan", "hash", 0, "|6,1;|2,20;|1,10;1,5;|"),
-        ("scan", "hash", 1, "||||"),
-        ("scan", "hash", 2, "|6,7;|2,~;~,4;||"),
-        ("scan", "single", 2, "2,~;~,4;6,7;|"),
-        ("scan", "to-all", 2, "2,~;~,4;6,7;|"),
-        ("scan", "broadcast", 2, "2,~;~,4;6,7;|"),
-        ("scan filter", "result", 0, "2,20;6,1;|"),
-        ("scan filter", "result", 2, "2,~;6,7;|"),
-        ("scan project", "result", 2, "~,2;4,~;7,6;|"),
-        ("one project", "result", 0, "~,~;|"),
-        ("scan partial", "result", 0, "1,2L,15L;2,1L,20L;6,1L,1L;|"),
-        ("scan partial", "result", 1, "|"),
-        ("scan partial", "hash", 2, "|6,1L,7L;|2,0L,~;~,1L,4L;||"),
-        ("scan partial-all", "result", 0, "4L,36L;|"),
-        ("scan partial-all", "result", 1, "0L,~;|"),
-        ("nothing", "result", 1, "|"),
-        ("nothing", "hash", 0, "||||"),
-        ("nothing filter project", "result", 0, "|"),
-        ("nothing partial-all", "result", 0, "0L,~;|"),
-        ("nothing partial", "result", 0, "|"),
-    ] {
-        assert_eq!(rt;
-            cells_of(alloc, none, &[], (body, kind), k)?.as_str(),
-            cells,
-            "{body} {kind} {k}"
-        );
+    for (body, kind, k, cells) in &CASES {
+        let given = cells_of(alloc, ("one", "result"), &[], (body, kind), *k)?;
+        assert_eq!(rt; given.as_str(), *cells, "{body} {kind} {k}");
     }
     Ok(())
 }
 
+/// Two rectangles of the cells of a stage of three maps, a task that reads one of them, and the cells that it gives. The stage and
+/// the body are told by their words, with their kinds.
+static READS: [((&str, &str), [Corners; 2], (&str, &str), u32, &str); 15] = [
+    (("scan", "hash"), [(0, 3, 0, 1), (0, 3, 1, 2)], ("read", "result"), 0, "|"),
+    (("scan", "hash"), [(0, 3, 0, 1), (0, 3, 1, 2)], ("read", "result"), 1, "6,1;6,7;|"),
+    (("scan", "hash"), [(0, 3, 2, 3), (0, 3, 3, 4)], ("read", "result"), 0, "2,20;2,~;~,4;|"),
+    (("scan", "hash"), [(0, 3, 2, 3), (0, 3, 3, 4)], ("read", "result"), 1, "1,10;1,5;|"),
+    (("scan", "hash"), [(0, 3, 1, 3), (2, 3, 0, 4)], ("read", "result"), 0, "6,1;6,7;2,20;2,~;~,4;|"),
+    (("scan", "hash"), [(0, 3, 1, 3), (2, 3, 0, 4)], ("read", "result"), 1, "6,7;2,~;~,4;|"),
+    (("scan", "hash"), [(0, 3, 1, 3), (2, 3, 0, 4)], ("read", "hash"), 0, "|6,1;6,7;|2,20;2,~;~,4;||"),
+    (("scan", "hash"), [(0, 3, 1, 3), (2, 3, 0, 4)], ("read filter project", "single"), 0, "1,6;7,6;20,2;~,2;|"),
+    (("scan", "hash"), [(1, 2, 0, 4), (0, 3, 2, 2)], ("read", "result"), 0, "|"),
+    (("scan", "hash"), [(1, 2, 0, 4), (0, 3, 2, 2)], ("read", "result"), 1, "|"),
+    (("scan partial", "hash"), [(0, 3, 0, 1), (0, 3, 2, 3)], ("read final", "result"), 0, "|"),
+    (("scan partial", "hash"), [(0, 3, 0, 1), (0, 3, 2, 3)], ("read final", "result"), 1, "2,1L,20L;~,1L,4L;|"),
+    (("scan partial", "hash"), [(0, 3, 1, 3), (2, 3, 0, 4)], ("read final", "broadcast"), 0, "6,2L,8L;2,1L,20L;~,1L,4L;|"),
+    (("scan partial-all", "single"), [(0, 3, 0, 1), (1, 1, 0, 1)], ("read final-all", "result"), 0, "6L,47L;|"),
+    (("scan partial-all", "single"), [(0, 3, 0, 1), (1, 1, 0, 1)], ("read final-all", "result"), 1, "0L,~;|"),
+];
+
 #[test]
 fn a_task_reads_the_cells_of_its_rectangle(rt: HostRuntime) -> Result<(), Fail> {
     let alloc = rt.alloc();
-    let plain: &[Corners] = &[(0, 3, 0, 1), (0, 3, 1, 2), (0, 3, 2, 3), (0, 3, 3, 4)];
-    let two: &[Corners] = &[(0, 3, 1, 3), (2, 3, 0, 4)];
-    let empty: &[Corners] = &[(1, 2, 0, 4), (0, 3, 2, 2)];
-    let whole: &[Corners] = &[(0, 3, 0, 1), (1, 1, 0, 1)];
-    let rows = ("scan", "hash");
-    let groups = ("scan partial", "hash");
-    let sums = ("scan partial-all", "single");
-    for (stage, corners, body, kind, k, cells) in [
-        (rows, plain, "read", "result", 0, "|"),
-        (rows, plain, "read", "result", 1, "6,1;6,7;|"),
-        (rows, plain, "read", "result", 2, "2,20;2,~;~,4;|"),
-        (rows, plain, "read", "result", 3, "1,10;1,5;|"),
-        (rows, two, "read", "result", 0, "6,1;6,7;2,20;2,~;~,4;|"),
-        (rows, two, "read", "result", 1, "6,7;2,~;~,4;|"),
-        (rows, two, "read", "hash", 0, "|6,1;6,7;|2,20;2,~;~,4;||"),
-        (rows, two, "read filter project", "single", 0, "1,6;7,6;20,2;~,2;|"),
-        (rows, empty, "read", "result", 0, "|"),
-        (rows, empty, "read", "result", 1, "|"),
-        (groups, plain, "read final", "result", 2, "2,1L,20L;~,1L,4L;|"),
-        (groups, plain, "read final", "result", 0, "|"),
-        (groups, two, "read final", "broadcast", 0, "6,2L,8L;2,1L,20L;~,1L,4L;|"),
-        (sums, whole, "read final-all", "result", 0, "6L,47L;|"),
-        (sums, whole, "read final-all", "result", 1, "0L,~;|"),
-    ] {
-        assert_eq!(rt;
-            cells_of(alloc, stage, corners, (body, kind), k)?.as_str(),
-            cells,
-            "{body} {kind} {k}"
-        );
+    for (stage, corners, body, k, cells) in &READS {
+        let given = cells_of(alloc, *stage, corners, *body, *k)?;
+        assert_eq!(rt; given.as_str(), *cells, "{k} {cells}");
     }
     Ok(())
 }

@@ -19,6 +19,7 @@ use std::alloc::Global;
 use std::test::Fail;
 
 /// A table of two columns. Its first file has four rows, its second none, and its third three rows.
+#[tactic(auto, using(crate::proofs::StageSteps::has_table))]
 fn loaded(alloc: Global) -> Result<Tables, Fail>
     ensures { IfOk result (λ tables. HasTable tables) }
 {
@@ -50,6 +51,7 @@ fn load(alloc: Global, catalog: &Catalog) -> Result<Tables, Fail>
 }
 
 /// The table, and no stage.
+#[tactic(auto, using(crate::proofs::StageSteps::nothing_held))]
 pub fn bare_ground(alloc: Global) -> Result<Ground, Fail>
     ensures table { IfOk result (λ ground. HasTable ground.tables) }
     ensures bare { IfOk result (λ ground. ground.maps ≡ 0) }
@@ -65,6 +67,7 @@ pub fn bare_ground(alloc: Global) -> Result<Ground, Fail>
 }
 
 /// A kind of stage by its word.
+#[tactic(auto, using(crate::proofs::StageSteps::single_easy, crate::proofs::StageSteps::to_all_easy, crate::proofs::StageSteps::broadcast_easy, crate::proofs::StageSteps::result_easy))]
 pub fn kind_of(alloc: Global, word: &str) -> Result<StageKind, Fail>
     ensures { IfOk result IsEasy }
 {
@@ -79,6 +82,7 @@ pub fn kind_of(alloc: Global, word: &str) -> Result<StageKind, Fail>
 }
 
 /// Four cells by the hash of the first column.
+#[tactic(auto, using(crate::proofs::StageSteps::hash_easy))]
 fn by_first_column(alloc: Global) -> Result<StageKind, Fail>
     ensures { IfOk result IsEasy }
 {
@@ -100,6 +104,7 @@ fn cell_count(kind: &StageKind) -> u32
 }
 
 /// What stage 0 keeps of each part of its body, which reads no stage.
+#[tactic(auto, using(crate::proofs::StageSteps::ready_built, crate::proofs::StageSteps::built_kind, crate::proofs::StageSteps::none_kept))]
 fn kept_outputs(
     alloc: Global,
     bare: &Ground,
@@ -119,6 +124,7 @@ fn kept_outputs(
 }
 
 /// The table, and what stage 0 of this body and kind keeps.
+#[tactic(auto, using(crate::proofs::StageSteps::stage_holds, crate::proofs::StageSteps::built_kind))]
 pub fn ground_of(alloc: Global, bare: Ground, body: &Body, kind: &StageKind) -> Result<Ground, Fail>
     requires bare { bare.maps ≡ 0 }
     requires table { HasTable bare.tables }
