@@ -1,5 +1,5 @@
 -- Bodies that are made node by node are ready.
-use Rattle.std.proofs.Common.{◌≡◌, ℕ, zero, suc, ◌+◌, ◌-◌, ◌<◌, ◌≤◌, ◌==◌, List, [], ◌∷◌, ◌++◌, map, filter, take, drop, length, refl, sym, subst, ap, ◌∙◌, arith, length-append, slice_index_or, Bool}
+use Rattle.std.proofs.Common.{◌≡◌, ℕ, zero, suc, ◌+◌, ◌-◌, ◌<◌, ◌≤◌, List, [], ◌∷◌, ◌++◌, map, filter, take, length, refl, sym, subst, ap, ◌∙◌, arith, length-append, slice_index_or}
 use Rattle.std.specs.Prelude.{All, max, replicate, flat_map}
 use Rattle.std.specs.List.{range_with_len}
 use Rattle.std.proofs.lemmas.List.{length-map}
@@ -8,13 +8,12 @@ use Rattle.aqe_base.specs.declared.cells.Rect.{Rect}
 use Rattle.aqe_base.specs.declared.stage_id.StageId.{StageId}
 use Rattle.aqe_blocks.specs.Kept.{AllKept}
 use Rattle.aqe_rects.specs.Rectangles.{LiesWithin}
-use Rattle.aqe_values.specs.Equality.{row_eq}
 use Rattle.aqe_values.specs.Bounds.{row_limit}
 use Rattle.aqe_expr.specs.declared.expr.Expr.{Expr}
 use Rattle.aqe_expr.specs.Meaning.{val, holds}
 use Rattle.aqe_logical.specs.declared.plan.AggCall.{AggCall}
 use Rattle.aqe_logical.specs.Answers.{Row, Tables, table_rows}
-use Rattle.aqe_logical.specs.Groups.{row_of, distinct, group_keys, group_rows, finish_rows, finished, rows_with, call_value}
+use Rattle.aqe_logical.specs.Groups.{row_of, distinct, group_keys, finish_rows, finished, rows_with, call_value}
 use Rattle.aqe_logical.specs.WellFormed.{HaveWidth}
 use Rattle.aqe_partial.specs.PartialRows.{joined_parts, partial_rows}
 use Rattle.aqe_physical.specs.declared.plan.Plan.{Plan, OneRow, Scan, Nothing, Read}
@@ -24,13 +23,13 @@ use Rattle.aqe_physical.specs.Nodes.{nodes}
 use Rattle.aqe_physical.specs.Counts.{part_count}
 use Rattle.aqe_physical.proofs.Shapes.{is_kept, is_mapped, is_grouped, is_finished}
 use Rattle.aqe_physical.proofs.Walk.{all_left, all_right}
-use Rattle.aqe_stages.specs.Stages.{Stage, Stages, Output}
+use Rattle.aqe_stages.specs.Stages.{Stages, Output}
 use Rattle.aqe_stages.specs.Cells.{numbers, cell, rect_rows, all_rows}
 use Rattle.aqe_stages.specs.Parts.{parts, given_by, all, cells, file_rows}
 use Rattle.aqe_stages.specs.Reads.{some_maps, rect_needs}
 use Rattle.aqe_stages.specs.Runnable.{OfStage, CanRun, Narrow, NarrowKeys, reducers_of}
 use Rattle.aqe_task.specs.Tasks.{IsKept, IsMet}
-use Rattle.aqe_trial.specs.Serving.{HasCells, IsHeld, IsReady, IsReadyAnywhere, Holds, Ready, Follows}
+use Rattle.aqe_trial.specs.Serving.{HasCells, IsReady, IsReadyAnywhere, Holds, Ready, Follows}
 
 -- what a body that runs asks of each plan within it
 abbrev Runs : Tables → Stages → Plan → Type 0
@@ -190,15 +189,18 @@ final_follows p keys calls q n w e f = record { follow = λ tables held maps h. 
 one_row_at : (tables : Tables) (held : AllKept) (maps : ℕ) → Ready tables held maps OneRow 1 0
 one_row_at tables held maps =
     let wide : HaveWidth 0 (all tables [] OneRow) = All-cons (λ (row : Row). length row ≡ 0) [] [] refl (All-nil (λ (row : Row). length row ≡ 0)) in
-    record { stages = []; is = record {
-      bare = λ e. refl;
-      built = refl;
-      runs = alone tables [] OneRow 0 refl (omega arith) wide tt;
-      reads = λ k. All-nil (IsMet tables [] held);
-      count = refl;
-      wide = wide;
-      few = omega arith;
-    } }
+    record {
+      stages = [];
+      is = record {
+        bare = λ e. refl;
+        built = refl;
+        runs = alone tables [] OneRow 0 refl (omega arith) wide tt;
+        reads = λ k. All-nil (IsMet tables [] held);
+        count = refl;
+        wide = wide;
+        few = omega arith;
+      };
+    }
 
 no_rows : (P : Row → Type 0) (n : ℕ) → All P (joined_parts (replicate n []))
 no_rows P zero = All-nil P
@@ -207,15 +209,18 @@ no_rows P (suc n) = no_rows P n
 nothing_at : (tables : Tables) (held : AllKept) (maps parts width : ℕ) → width ≤ 256 → Ready tables held maps (Nothing parts width) parts width
 nothing_at tables held maps count width few =
     let wide : HaveWidth width (all tables [] (Nothing count width)) = no_rows (λ (row : Row). length row ≡ width) count in
-    record { stages = []; is = record {
-      bare = λ e. refl;
-      built = refl;
-      runs = alone tables [] (Nothing count width) width refl few wide tt;
-      reads = λ k. All-nil (IsMet tables [] held);
-      count = refl;
-      wide = wide;
-      few = few;
-    } }
+    record {
+      stages = [];
+      is = record {
+        bare = λ e. refl;
+        built = refl;
+        runs = alone tables [] (Nothing count width) width refl few wide tt;
+        reads = λ k. All-nil (IsMet tables [] held);
+        count = refl;
+        wide = wide;
+        few = few;
+      };
+    }
 
 files_all : (P : Row → Type 0) (tables : Tables) (table : ℕ) → All P (table_rows tables table) → (ks : List ℕ) → All P (joined_parts (map (file_rows tables table) ks))
 files_all P tables table h [] = All-nil P
@@ -226,15 +231,18 @@ pub scan_ready : (tables : Tables) (held : AllKept) (maps files parts : ℕ) →
     → HaveWidth 2 (table_rows tables 0) → Ready tables held maps (Scan 0 files) parts 2
 scan_ready tables held maps files count there e f h =
     let wide : HaveWidth 2 (all tables [] (Scan 0 files)) = files_all (λ (row : Row). length row ≡ 2) tables 0 h (range_with_len 0 (max 1 files)) in
-    record { stages = []; is = record {
-      bare = λ e. refl;
-      built = refl;
-      runs = alone tables [] (Scan 0 files) 2 refl (omega arith) wide (there, e);
-      reads = λ k. All-nil (IsMet tables [] held);
-      count = f;
-      wide = wide;
-      few = omega arith;
-    } }
+    record {
+      stages = [];
+      is = record {
+        bare = λ e. refl;
+        built = refl;
+        runs = alone tables [] (Scan 0 files) 2 refl (omega arith) wide (there, e);
+        reads = λ k. All-nil (IsMet tables [] held);
+        count = f;
+        wide = wide;
+        few = omega arith;
+      };
+    }
 
 -- a cell of what is held, the cells of a rectangle, and what rectangles read
 cell_all : (P : Row → Type 0) (output : Output) → All P (all_rows output) → (m r : ℕ) → All P (cell output m r)
@@ -281,15 +289,18 @@ pub read_ready : (tables : Tables) (held : AllKept) (maps reducers width parts :
     → All (LiesWithin maps reducers) rects → parts ≡ length rects → Ready tables held maps (Read zeroth maps reducers rects) parts width
 read_ready tables held maps reducers width count rects some h within f =
     let wide : HaveWidth width (all tables h.stages (Read zeroth maps reducers rects)) = rects_all (λ (row : Row). length row ≡ width) (cells tables h.stages 0) h.are.wide rects in
-    record { stages = h.stages; is = record {
-      bare = h.are.bare;
-      built = refl;
-      runs = alone tables h.stages (Read zeroth maps reducers rects) width refl h.are.few wide (of_first h.stages maps reducers rects (h.are.first some) within);
-      reads = needs_met tables h.stages held maps reducers zeroth refl h.are.each rects within;
-      count = f;
-      wide = wide;
-      few = h.are.few;
-    } }
+    record {
+      stages = h.stages;
+      is = record {
+        bare = h.are.bare;
+        built = refl;
+        runs = alone tables h.stages (Read zeroth maps reducers rects) width refl h.are.few wide (of_first h.stages maps reducers rects (h.are.first some) within);
+        reads = needs_met tables h.stages held maps reducers zeroth refl h.are.each rects within;
+        count = f;
+        wide = wide;
+        few = h.are.few;
+      };
+    }
 
 pub one_row_ready : IsReadyAnywhere OneRow 1 0
 one_row_ready = record { ready = λ tables held maps. one_row_at tables held maps }

@@ -1,18 +1,18 @@
 -- What is kept of a stage is what it holds, and tasks are served over it.
-use Rattle.std.proofs.Common.{◌≡◌, ℕ, zero, suc, ◌+◌, ◌<◌, ◌≤◌, ◌==◌, ◌&&◌, Bool, true, false, cond, List, [], ◌∷◌, ◌++◌, map, filter, length, refl, sym, subst, ap, ◌∙◌, arith, Option, Some, None, slice_get, slice_index_or, append-nil, ◌≢◌, ◌⊎◌, inl, inr}
-use Rattle.std.specs.Prelude.{All, IfSome, IsSome, max}
+use Rattle.std.proofs.Common.{◌≡◌, ℕ, ◌+◌, ◌<◌, ◌≤◌, ◌==◌, Bool, true, false, cond, List, [], ◌∷◌, map, length, refl, sym, subst, ap, ◌∙◌, arith, Some, None, slice_get, slice_index_or, append-nil, ◌≢◌, ◌⊎◌, inl, inr}
+use Rattle.std.specs.Prelude.{All, IfSome, max}
 use Rattle.std.specs.List.{range_with_len}
-use Rattle.std.specs.Option.{option_map, IsSomeAnd}
+use Rattle.std.specs.Option.{option_map}
 use Rattle.std.proofs.lemmas.List.{get_or-map}
 use Rattle.std.proofs.lemmas.List.FromFn.{length-map-range_with_len}
-use Rattle.std.proofs.lemmas.List.Elements.{All-nil, All-append, All-filter, All-head, All-tail, All-weaker}
+use Rattle.std.proofs.lemmas.List.Elements.{All-nil, All-append, All-filter, All-head, All-tail}
 use Rattle.std.proofs.lemmas.Map.Views.{All-values-insert_entry}
 use Rattle.std.proofs.lemmas.Bool.Decides.{eqb_tells}
 use Rattle.std.specs.Ordering.{nat_cmp}
 use Rattle.aqe_blocks.specs.Cells.{CellData}
 use Rattle.aqe_blocks.specs.Kept.{AllKept, Becomes, Changes, HaveCells, kept_of, output_at, with_output}
 use Rattle.aqe_values.specs.declared.schema.Field.{Field}
-use Rattle.aqe_logical.specs.Answers.{Row, Tables, table_rows}
+use Rattle.aqe_logical.specs.Answers.{Row, Tables}
 use Rattle.aqe_logical.specs.WellFormed.{HaveWidth}
 use Rattle.aqe_tables.specs.declared.catalog.CatalogTable.{CatalogTable}
 use Rattle.aqe_tables.specs.declared.loaded.Table.{Table}
@@ -20,25 +20,24 @@ use Rattle.aqe_tables.specs.Loaded.{AreShaped, IsLoaded, Slots, table_at}
 use Rattle.aqe_lists.specs.LoadedTables.{tables_of}
 use Rattle.aqe_partial.specs.PartialRows.{joined_parts}
 use Rattle.aqe_places.specs.Places.{part_of}
-use Rattle.aqe_physical.specs.declared.target.Target.{Target}
 use Rattle.aqe_physical.specs.declared.target.Target.TheVariants.{Hash, Range, Single, Broadcast}
 use Rattle.aqe_physical.specs.declared.target.StageKind.{StageKind}
 use Rattle.aqe_physical.specs.declared.target.StageKind.TheVariants as kind
-use Rattle.aqe_physical.specs.declared.plan.Plan.{Plan, OneRow, Scan}
+use Rattle.aqe_physical.specs.declared.plan.Plan.{Plan, Scan}
 use Rattle.aqe_physical.specs.Counts.{part_count, target_count}
 use Rattle.aqe_physical.proofs.Walk.{all_left, all_right}
-use Rattle.aqe_stages.specs.Stages.{Stage, Stages, Given}
+use Rattle.aqe_stages.specs.Stages.{Stages, Given}
 use Rattle.aqe_stages.specs.Cells.{all_rows}
 use Rattle.aqe_stages.specs.Places.{place, cells_of}
-use Rattle.aqe_stages.specs.Parts.{parts, given_by, all, cells}
+use Rattle.aqe_stages.specs.Parts.{parts, all, cells}
 use Rattle.aqe_stages.specs.Reads.{needs, task_needs}
-use Rattle.aqe_stages.specs.Runnable.{CanKeep, reducers_of}
+use Rattle.aqe_stages.specs.Runnable.{reducers_of}
 use Rattle.aqe_stages.proofs.Counted.{counted}
 use Rattle.aqe_task.specs.Built.{IsBuiltBody, IsBuiltKind}
-use Rattle.aqe_task.specs.Tasks.{IsKept, IsMet, IsServedTask, GivesTask, task_cells}
+use Rattle.aqe_task.specs.Tasks.{IsMet, IsServedTask, GivesTask, task_cells}
 use Rattle.aqe_expr.specs.declared.expr.Expr.{Expr}
 use Rattle.aqe_trial.proofs.BodySteps.{narrow_keys, scan_ready}
-use Rattle.aqe_trial.specs.Serving.{HasTable, HasCells, IsHeld, IsReady, IsEasy, Holds, Ready, IsKeptBelow}
+use Rattle.aqe_trial.specs.Serving.{HasTable, IsReady, IsEasy, Holds, Ready, IsKeptBelow}
 
 -- what holds of all rows holds of those that an exchange sends, and of those that a stage keeps
 exchanged_all : (P : Row → Type 0) (f : Row → ℕ) (rows : List Row) → All P rows → (rs : List ℕ) → All P (joined_parts (map (part_of f rows) rs))
@@ -96,25 +95,30 @@ one_more tables k body old new m made built h e changes becomes = record {
   where
     same : length made ≡ reducers_of k
     same = ap (λ (cs : List CellData). length cs) e ∙ cells_count [] k (parts tables [] body) (slice_index_or (parts tables [] body) m []) built
+
     by_test : (j : ℕ) → j < m + 1 → ((m == j) ≡ true) × (m ≡ j) ⊎ ((m == j) ≡ false) × (m ≢ j) → output_at new 0 j ≡ Some (task_cells tables [] k body j)
     by_test j lt (inl (t, p)) =
         changes 0 j ∙ (ap (λ (b : Bool). cond b (Some made) (output_at old 0 j)) t ∙ (ap (λ (cs : List CellData). Some cs) e ∙ ap (λ (n : ℕ). Some (task_cells tables [] k body n)) p))
     by_test j lt (inr (t, p)) =
         changes 0 j ∙ (ap (λ (b : Bool). cond b (Some made) (output_at old 0 j)) t ∙ h.each j (omega (arith, lt, p)))
+
     each : (j : ℕ) → j < m + 1 → output_at new 0 j ≡ Some (task_cells tables [] k body j)
     each j lt = by_test j lt (eqb_tells m j)
 
 -- where the outputs of all maps are kept, they are what the stage holds
 pub stage_holds : (tables : Tables) (bare : AllKept) (k : StageKind) (body : Plan) (held : AllKept) (maps reducers width : ℕ) → IsBuiltKind k → Ready tables bare 0 body maps width
     → IsKeptBelow tables k body held maps → reducers ≡ reducers_of k → 0 < maps → Holds tables held maps reducers width
-stage_holds tables bare k body held maps reducers width built r h e some = record { stages = one k body; are = record {
-  bare = λ no. absurd (let wrong : ⊥ = omega (arith, no, some) in wrong);
-  first = λ lt. (r.is.count, e);
-  each = λ m lt. h.each m lt ∙ ap (λ (cs : List CellData). Some cs) (sym (held_cells tables k body m (subst (λ (n : ℕ). m < n) r.is.count lt)));
-  wide = kept_all (λ (row : Row). length row ≡ width) [] k (parts tables [] body) (parts tables [] body) built
-      (subst (λ (s : Stages). HaveWidth width (all tables s body)) (r.is.bare refl) r.is.wide);
-  few = r.is.few;
-} }
+stage_holds tables bare k body held maps reducers width built r h e some = record {
+  stages = one k body;
+  are = record {
+    bare = λ no. absurd (let wrong : ⊥ = omega (arith, no, some) in wrong);
+    first = λ lt. (r.is.count, e);
+    each = λ m lt. h.each m lt ∙ ap (λ (cs : List CellData). Some cs) (sym (held_cells tables k body m (subst (λ (n : ℕ). m < n) r.is.count lt)));
+    wide = kept_all (λ (row : Row). length row ≡ width) [] k (parts tables [] body) (parts tables [] body) built
+        (subst (λ (s : Stages). HaveWidth width (all tables s body)) (r.is.bare refl) r.is.wide);
+    few = r.is.few;
+  };
+}
 
 -- the task of a ready body is served, where the kind is easy
 task_met : (tables : Tables) (stages : Stages) (held : AllKept) (k : StageKind) (body : Plan) (n : ℕ) → IsBuiltKind k → All (IsMet tables stages held) (needs body n)
@@ -166,13 +170,16 @@ built_kind k easy = easy.built
 
 -- no stage is there before one is made
 pub nothing_held : (tables : Tables) (held : AllKept) → Holds tables held 0 0 0
-nothing_held tables held = record { stages = []; are = record {
-  bare = λ e. refl;
-  first = λ lt. absurd (let no : ⊥ = omega (arith, lt) in no);
-  each = λ m lt. absurd (let no : ⊥ = omega (arith, lt) in no);
-  wide = All-nil (λ (row : Row). length row ≡ 0);
-  few = omega arith;
-} }
+nothing_held tables held = record {
+  stages = [];
+  are = record {
+    bare = λ e. refl;
+    first = λ lt. absurd (let no : ⊥ = omega (arith, lt) in no);
+    each = λ m lt. absurd (let no : ⊥ = omega (arith, lt) in no);
+    wide = All-nil (λ (row : Row). length row ≡ 0);
+    few = omega arith;
+  };
+}
 
 -- kinds that keep any rows
 pub single_easy : IsEasy (kind.Shuffle Single)
@@ -186,6 +193,8 @@ broadcast_easy = record { built = refl; keeps = λ stages rows. tt }
 
 pub result_easy : IsEasy kind.Result
 result_easy = record { built = refl; keeps = λ stages rows. tt }
+
+pub ruleset easy_kinds = (single_easy, to_all_easy, broadcast_easy, result_easy)
 
 pub hash_easy : (keys : List Expr) (n : ℕ) → length keys ≤ 100 → 0 < n → IsEasy (kind.Shuffle (Hash keys n))
 hash_easy keys n few some = record { built = refl; keeps = λ stages rows. (some, narrow_keys keys rows (omega (arith, few))) }

@@ -1,5 +1,5 @@
 -- What tests of tasks know of the tables, stages and bodies that they make.
-use Rattle.std.specs.Prelude.{ℕ, ◌≡◌, ◌≤◌, ◌<◌, List, [], ◌∷◌, All, Some}
+use Rattle.std.specs.Prelude.{ℕ, ◌≡◌, ◌≤◌, ◌<◌, List, [], All, Some}
 use Rattle.aqe_blocks.specs.Kept.{AllKept, HaveCells, kept_of, output_at}
 use Rattle.aqe_tables.specs.Loaded.{Slots, IsLoaded}
 use Rattle.aqe_lists.specs.LoadedTables.{tables_of}

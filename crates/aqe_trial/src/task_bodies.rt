@@ -82,12 +82,7 @@ fn scan(ground: &Ground) -> Body
 }
 
 /// The rectangles, where each lies within the cells of so many maps and reducers.
-fn rects_of(
-    alloc: Global,
-    corners: &[Corners],
-    maps: u32,
-    reducers: u32,
-) -> Result<Rects, Fail>
+fn rects_of(alloc: Global, corners: &[Corners], maps: u32, reducers: u32) -> Result<Rects, Fail>
     ensures lie { IfOk result (λ rects. All (LiesWithin maps reducers) rects) }
     ensures few { IfOk result (λ rects. length rects ≤ 101) }
 {

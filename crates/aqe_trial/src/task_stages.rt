@@ -67,7 +67,7 @@ pub fn bare_ground(alloc: Global) -> Result<Ground, Fail>
 }
 
 /// A kind of stage by its word.
-#[tactic(auto, using(crate::proofs::StageSteps::single_easy, crate::proofs::StageSteps::to_all_easy, crate::proofs::StageSteps::broadcast_easy, crate::proofs::StageSteps::result_easy))]
+#[tactic(auto, using(crate::proofs::StageSteps::easy_kinds))]
 pub fn kind_of(alloc: Global, word: &str) -> Result<StageKind, Fail>
     ensures { IfOk result IsEasy }
 {
@@ -124,7 +124,6 @@ fn kept_outputs(
 }
 
 /// The table, and what stage 0 of this body and kind keeps.
-#[tactic(auto, using(crate::proofs::StageSteps::stage_holds, crate::proofs::StageSteps::built_kind))]
 pub fn ground_of(alloc: Global, bare: Ground, body: &Body, kind: &StageKind) -> Result<Ground, Fail>
     requires bare { bare.maps ≡ 0 }
     requires table { HasTable bare.tables }
