@@ -1,2 +1,0 @@
-pub mod BodySteps
-pub mod StageSteps

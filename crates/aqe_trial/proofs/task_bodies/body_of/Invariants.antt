@@ -1,7 +1,0 @@
--- the body so far is ready
-use Rattle.aqe_lists.specs.LoadedTables.{tables_of}
-use Rattle.aqe_trial.specs.Serving.{Ready}
-use Rattle.aqe_trial.proofs.task_bodies.body_of.Given as goal
-
-abbrev pub invariant-words : goal.invariant-words
-invariant-words l = Ready (tables_of l.ground.tables) l.ground.outputs l.ground.maps l.body.plan l.body.parts l.body.width

@@ -1,7 +1,0 @@
--- the outputs of the maps so far are kept
-use Rattle.aqe_lists.specs.LoadedTables.{tables_of}
-use Rattle.aqe_trial.specs.Serving.{IsKeptBelow}
-use Rattle.aqe_trial.proofs.task_stages.kept_outputs.Given as goal
-
-abbrev pub invariant-maps : goal.invariant-maps
-invariant-maps l = IsKeptBelow (tables_of l.bare.tables) l.kind l.body.plan l.outputs l.m
