@@ -1,2 +1,4 @@
 pub mod Served
 pub mod Planning
+pub mod BodySteps
+pub mod StageSteps

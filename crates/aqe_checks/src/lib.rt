@@ -34,6 +34,12 @@ mod sources;
 #[cfg(test)]
 mod tables;
 #[cfg(test)]
+mod task_bodies;
+#[cfg(test)]
+mod task_cells;
+#[cfg(test)]
+mod task_stages;
+#[cfg(test)]
 mod tasks;
 #[cfg(test)]
 mod values;

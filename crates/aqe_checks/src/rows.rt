@@ -58,7 +58,8 @@ fn value_text(alloc: Global, value: &Value) -> Result<String, AllocError> {
     }
 }
 
-fn row_text(alloc: Global, row: &Row) -> Result<String, AllocError> {
+/// The values of a row as one text.
+pub fn row_text(alloc: Global, row: &Row) -> Result<String, AllocError> {
     let mut text = String::new(alloc);
     for (i, value) in row.values().iter().enumerate() {
         if i > 0 {

@@ -34,7 +34,7 @@ fn options_of(alloc: Global, options: &[(&str, &str)]) -> Result<OptionForms, Fa
 }
 
 /// A table over the folder `t`.
-fn form_of(
+pub fn form_of(
     alloc: Global,
     columns: &[(&str, SqlType)],
     options: &[(&str, &str)],
@@ -127,7 +127,8 @@ fn an_option_stands_once(rt: HostRuntime) -> Result<(), Fail> {
     Ok(())
 }
 
-fn files_of(alloc: Global, files: &[(&str, &str)]) -> Result<Files, Fail> {
+/// Files by their paths.
+pub fn files_of(alloc: Global, files: &[(&str, &str)]) -> Result<Files, Fail> {
     let mut held = Files::new(alloc);
     for (path, text) in files {
         let bytes = Bytes::from_vec(Vec::from_slice(alloc, text.as_bytes())?);
