@@ -114,7 +114,8 @@ fn grouped(
     let keys = key_expressions(alloc, keys);
     let calls = untyped_calls(alloc, calls);
     let ((keys, calls), (schema, below)) = both(both(keys, calls), both(schema, Ok(below)))?;
-    Logical::aggregate(alloc, keys, calls, schema, below)
+    let plan = Logical::aggregate(alloc, keys, calls, schema, below)?;
+    Ok(plan)
 }
 
 /// The same where the query is grouped; else its rows as they are.
@@ -199,7 +200,8 @@ fn distinct_rows(alloc: Global, fields: Schema, plan: Logical) -> Result<Logical
     ensures { IfOk result (λ p. p ≡ spec.distinct_rows fields plan) }
 {
     let (columns, plan) = both(columns_up_to(alloc, fields.slice()), Ok(plan))?;
-    Logical::aggregate(alloc, columns, AggCalls::new(alloc), fields, plan)
+    let plan = Logical::aggregate(alloc, columns, AggCalls::new(alloc), fields, plan)?;
+    Ok(plan)
 }
 
 /// The plan with the output columns alone.

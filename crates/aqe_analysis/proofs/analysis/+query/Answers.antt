@@ -15,8 +15,8 @@ use Rattle.aqe_analysis.proofs.analysis.+query.Goals as goal
 pub whole-returns : goal.whole-returns
 whole-returns t c =
     let tables = seen c.args.catalog.now in
-    let p = c.query_parts-body.result in
-    subst (λ (o : Outcome Logical). Says c.within_cut.result o) (sym (query-walk c.args.query.now p.0.now p.1.now p.2 p.3 tables c.query_parts-body.ensures))
+    let p = c.query_parts-limit.result in
+    subst (λ (o : Outcome Logical). Says c.within_cut.result o) (sym (query-walk c.args.query.now p.0.now p.1.now p.2 p.3 tables c.query_parts-limit.ensures))
     (c.within_cut.ensures (made_of_union analysis.rules p.0.now tables p.1.now) (search rules))
 
 pub selected-returns : goal.selected-returns
@@ -81,9 +81,9 @@ pub joined-steps-preserved : goal.joined-steps-preserved
 joined-steps-preserved t c =
     let tables = seen c.args.catalog.now in
     let p = c.joined_parts.result in
-    let s = c.step_parts.result in
+    let s = c.step_parts-kind.result in
     turned from_seen (join_more tables) p.1.now c.steps.step-index c.step-item.result _ _ c.steps-test.true c.step-item.is c.steps.invariant
-    (λ o h. subst (λ (x : Outcome From). SaysSeen from_seen c.join_next-plan.result x) (sym (step-walk c.step-item.result s.0 s.1.now s.2.now tables o c.step_parts.ensures))
+    (λ o h. subst (λ (x : Outcome From). SaysSeen from_seen c.join_next-plan.result x) (sym (step-walk c.step-item.result s.0 s.1.now s.2.now tables o c.step_parts-kind.ensures))
     (c.join_next-plan.ensures o (made_of_source analysis.rules s.1.now tables) h c.source.ensures))
 
 pub joined-returns : goal.joined-returns
