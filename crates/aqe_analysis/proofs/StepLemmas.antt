@@ -13,13 +13,6 @@ use Rattle.aqe_rules.proofs.Steps.{memory_fails}
 use Rattle.aqe_typing.proofs.StepLemmas.{upon_fails}
 use Rattle.aqe_sources.specs.Pairs.{both_of}
 
--- no order, and no cut
-pub no_order : (order : List SortTree) (plan : Logical) → order ≡ [] → ordered order plan ≡ Ok plan
-no_order order plan e = rw e refl
-
-pub no_cut : (limit offset : Option ℕ) (plan p : Logical) → limit ≡ None → offset ≡ None → p ≡ plan → p ≡ cut limit offset plan
-no_cut limit offset plan p e f h = rw (e, f, h) refl
-
 -- the plan between OFFSET and LIMIT
 pub cut_made : (limit offset : Option ℕ) (q p : Logical) (r : Result Logical AnalysisFault) → p ≡ cut limit offset q → Says r (within_limits p) → Says r (within_limits (cut limit offset q))
 cut_made limit offset q p r e h = subst (λ (x : Logical). Says r (within_limits x)) e h

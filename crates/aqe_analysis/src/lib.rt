@@ -2,7 +2,6 @@
 #![tactic(auto)]
 
 mod analysis;
-mod forms;
 mod steps;
 
 pub use analysis::analyse;

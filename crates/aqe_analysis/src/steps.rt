@@ -13,11 +13,12 @@ ghost use Rattle.aqe_rules.specs.Selects.{is_empty};
 ghost use Rattle.aqe_rules.specs.Unions as unions;
 ghost use Rattle.aqe_analysis.specs.Steps.{union_in_order};
 
-use crate::forms::{cut, ordered, union_of};
 use aqe_logical::Logical;
+use aqe_ordered::{cut, ordered};
 use aqe_rules::AnalysisFault;
 use aqe_sources::{both_of, within_limits};
 use aqe_trees::{CoreTree, JoinedTree, SortTree};
+use aqe_unions::union_of;
 use std::alloc::Global;
 
 /// Whether there is a FROM.

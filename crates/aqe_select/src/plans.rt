@@ -3,7 +3,6 @@
 //! What is made in several steps is handed on as results, so that no plan is alive where a step may find no memory.
 
 ghost use Rattle.std.specs.Prelude.{◌≡◌, ◌++◌, [], map, true, Ok, ◌∷◌, IfOk};
-ghost use Rattle.aqe_expr.specs.declared.expr.Expr.{Column};
 ghost use Rattle.aqe_rules.specs.Analysis as analysis;
 ghost use Rattle.aqe_rules.specs.Plans as spec;
 ghost use Rattle.aqe_rules.specs.Selects.{field};
@@ -15,10 +14,10 @@ ghost use Rattle.aqe_select.specs.Shown.{outputs_seen};
 use crate::outputs::{OutputColumn, Outputs};
 use aqe_base::{Listing, Memory};
 use aqe_boxes::both;
-use aqe_expr::Expr;
 use aqe_logical::{AggCalls, Exprs, Logical};
 use aqe_rules::{Named, Typed};
 use aqe_typing::Call;
+use aqe_unions::distinct_rows;
 use aqe_values::{Field, Schema, SqlType, Text};
 use std::alloc::Global;
 
@@ -170,38 +169,6 @@ fn fields_of(alloc: Global, outputs: &[OutputColumn]) -> Result<Schema, aqe_valu
         fields.push(Field { name, kind })?;
     }
     Ok(fields)
-}
-
-/// The column at a place. Places above 4,294,967,295 find no memory.
-fn column_at(place: usize) -> Result<Expr, Memory>
-    ensures { IfOk result (λ e. e ≡ Column place) }
-{
-    match u32::try_from(place) {
-        Ok(place) => Ok(Expr::Column(place)),
-        Err(_) => Err(Memory),
-    }
-}
-
-/// The columns of a plan with these fields.
-fn columns_up_to(alloc: Global, fields: &[Field]) -> Result<Exprs, Memory>
-    ensures { IfOk result (λ columns. columns ≡ spec.columns_up_to 0 fields.now) }
-{
-    let mut columns = Exprs::new(alloc);
-    'fields: for _ in fields {
-        let column = column_at(columns.len())?;
-        columns.push(column)?;
-    }
-    Ok(columns)
-}
-
-/// The rows of the plan, equal ones once.
-#[tactic(auto, using(crate::proofs::PlanSteps::distinct_made))]
-fn distinct_rows(alloc: Global, fields: Schema, plan: Logical) -> Result<Logical, Memory>
-    ensures { IfOk result (λ p. p ≡ spec.distinct_rows fields plan) }
-{
-    let (columns, plan) = both(columns_up_to(alloc, fields.slice()), Ok(plan))?;
-    let plan = Logical::aggregate(alloc, columns, AggCalls::new(alloc), fields, plan)?;
-    Ok(plan)
 }
 
 /// The plan with the output columns alone.
