@@ -141,14 +141,14 @@ module _ (p : Place) where
   test_calls a = by_form (λ t. (made_of_test readings t a p).calls ≡ (a p).calls ++ (made_of_test readings t silent p).calls)
       (at (of_plain readings a) ∙ sym (ap (λ (calls : List Call). (a p).calls ++ calls) (at (of_plain readings silent)) ∙ append-nil (a p).calls))
       (λ negated low high. at (of_between readings negated low high a) ∙ negated_calls negated (readings.between a (made_of_comparison readings low) (made_of_comparison readings high)) ∙
-        append_assoc (a p).calls (made_of_comparison readings low p).calls (made_of_comparison readings high p).calls ∙
-        sym (ap (λ (calls : List Call). (a p).calls ++ calls) (at (of_between readings negated low high silent) ∙ negated_calls negated (readings.between silent (made_of_comparison readings low) (made_of_comparison readings high)))))
+      append_assoc (a p).calls (made_of_comparison readings low p).calls (made_of_comparison readings high p).calls ∙
+      sym (ap (λ (calls : List Call). (a p).calls ++ calls) (at (of_between readings negated low high silent) ∙ negated_calls negated (readings.between silent (made_of_comparison readings low) (made_of_comparison readings high)))))
       (λ negated list. at (of_one_of readings negated list a) ∙ negated_calls negated (readings.in_list a (map (made_of readings) list)) ∙
-        sym (ap (λ (calls : List Call). (a p).calls ++ calls) (at (of_one_of readings negated list silent) ∙ negated_calls negated (readings.in_list silent (map (made_of readings) list)))))
+      sym (ap (λ (calls : List Call). (a p).calls ++ calls) (at (of_one_of readings negated list silent) ∙ negated_calls negated (readings.in_list silent (map (made_of readings) list)))))
       (λ negated pattern. at (of_like readings negated pattern a) ∙ negated_calls negated (readings.like a (made_of_comparison readings pattern)) ∙
-        sym (ap (λ (calls : List Call). (a p).calls ++ calls) (at (of_like readings negated pattern silent) ∙ negated_calls negated (readings.like silent (made_of_comparison readings pattern)))))
+      sym (ap (λ (calls : List Call). (a p).calls ++ calls) (at (of_like readings negated pattern silent) ∙ negated_calls negated (readings.like silent (made_of_comparison readings pattern)))))
       (λ negated truth. at (of_is readings negated truth a) ∙ negated_calls negated (readings.is truth a) ∙
-        sym (ap (λ (calls : List Call). (a p).calls ++ calls) (at (of_is readings negated truth silent) ∙ negated_calls negated (readings.is truth silent)) ∙ append-nil (a p).calls))
+      sym (ap (λ (calls : List Call). (a p).calls ++ calls) (at (of_is readings negated truth silent) ∙ negated_calls negated (readings.is truth silent)) ∙ append-nil (a p).calls))
 
   pub predicate_calls : (t : PredicateTree) (value : ComparisonTree) (asked : Test) → t ≡ predicate_tree value asked → calls_of_predicate t p ≡ calls_of_comparison value p ++ calls_of_test asked p
   unfolding calls_of_predicate calls_of_comparison

@@ -22,9 +22,7 @@ use std::alloc::Global;
 fn is_there(call: &Call, calls: &[Call]) -> bool
     ensures { result ≡ list_any (is_call call.now) calls.now }
 {
-    calls
-        .iter()
-        .any(|other| same_call(&other.call, &call.call))
+    calls.iter().any(|other| same_call(&other.call, &call.call))
 }
 
 /// Adds the call behind the others, unless it is there.

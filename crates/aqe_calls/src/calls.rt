@@ -89,12 +89,7 @@ fn predicate(
 
 /// In a test, whatever stands before it.
 #[cycle(calls)]
-fn asked(
-    alloc: Global,
-    test: &Test,
-    scope: &Scope,
-    calls: &mut Listing<Call>,
-) -> Result<(), Memory>
+fn asked(alloc: Global, test: &Test, scope: &Scope, calls: &mut Listing<Call>) -> Result<(), Memory>
     ensures { OnOk result (Added calls.old calls.new (calls_of_test test.now (place_of scope.now))) }
 {
     match test {
@@ -263,12 +258,7 @@ fn arms(
 
 /// In an arm.
 #[cycle(calls)]
-fn arm(
-    alloc: Global,
-    pair: &Arm,
-    scope: &Scope,
-    calls: &mut Listing<Call>,
-) -> Result<(), Memory>
+fn arm(alloc: Global, pair: &Arm, scope: &Scope, calls: &mut Listing<Call>) -> Result<(), Memory>
     ensures { OnOk result (Added calls.old calls.new (calls_of_arm pair.now (place_of scope.now))) }
 {
     let (when, gives) = arm_parts(pair);

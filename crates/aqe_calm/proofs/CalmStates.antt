@@ -128,10 +128,10 @@ result_made asked first now c none =
     let stage : Stage = record { kind = kind.Result; body = now.plan } in
     let s = result_step asked now c.steady none in
     let put : (with_stage now (result_of now.plan)).plan ≡ now.plan = stays_put (read_after (number_of (length now.stages))) now.plan
-        (first_of IsNoExchange now.plan (each IsNoExchange now.plan none)) in
+    (first_of IsNoExchange now.plan (each IsNoExchange now.plan none)) in
     let some = some_part now.plan (each IsBuiltNode now.plan c.built) in
     let stays : parts_over asked (now.stages ++ stage ∷ []) now.plan ≡ parts_over asked (now.stages ++ stage ∷ []) first =
-        parts_stay asked.tables now.stages (stage ∷ []) now.plan c.steady.below ∙ c.serves ∙ sym (first_stays asked first now.stages (stage ∷ []) c.unread) in
+    parts_stay asked.tables now.stages (stage ∷ []) now.plan c.steady.below ∙ c.serves ∙ sym (first_stays asked first now.stages (stage ∷ []) c.unread) in
     record {
       steady = s;
       versions = c.versions;
@@ -150,12 +150,12 @@ calm_made asked first now whole making others c is = elim (cases_Bool (is_ready 
   | inl ready ↦
       let none = none_other whole now.plan ready in
       let all : all_makings whole (has_result now.stages) now.plan ≡ cond (not (has_result now.stages)) (result_of now.plan ∷ []) [] =
-          λ i. none i ++ cond (ready i && not (has_result now.stages)) (result_of now.plan ∷ []) [] in
+      λ i. none i ++ cond (ready i && not (has_result now.stages)) (result_of now.plan ∷ []) [] in
       subst (λ m. Calm asked first (with_stage now m)) (only (has_result now.stages) (sym all ∙ is))
       (result_made asked first now c (all_nodes IsNoExchange now.plan (no_exchange whole now.plan ready)))
   | inr not_ready ↦
       let all : all_makings whole (has_result now.stages) now.plan ≡ makings whole now.plan =
-          (λ i. makings whole now.plan ++ cond (not_ready i && not (has_result now.stages)) (result_of now.plan ∷ []) []) ∙ append-nil (makings whole now.plan) in
+      (λ i. makings whole now.plan ++ cond (not_ready i && not (has_result now.stages)) (result_of now.plan ∷ []) []) ∙ append-nil (makings whole now.plan) in
       let e : makings whole now.plan ≡ making ∷ others = sym all ∙ is in
       let at = All-head (λ (m : Making). stage_at m.place now.plan ≡ Some m.stage) making others (subst (All (λ (m : Making). stage_at m.place now.plan ≡ Some m.stage)) e (standing whole now.plan)) in
       let ready = All-head (λ (m : Making). is_ready whole m.stage.body ≡ true) making others (subst (All (λ (m : Making). is_ready whole m.stage.body ≡ true)) e (are_ready whole now.plan)) in

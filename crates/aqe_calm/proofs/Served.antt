@@ -133,8 +133,8 @@ served asked first now place stage outputs c m is all_kept =
     let within : t < part_count stage.body = omega (arith, many, there.1) in
     let same : 0 + t ≡ t = omega arith in
     let reads_are : task_reads (births h) s t ≡ Some (map (need_over (take s now.stages)) (task_needs stage.kind stage.body t)) =
-        ap (λ o. option_and_then (λ b. slice_get b.reads t) o) birth ∙ get_mapped (λ k. map (need_over (take s now.stages)) (task_needs stage.kind stage.body k)) 0 (part_count stage.body) t within
-        ∙ ap (λ k. Some (map (need_over (take s now.stages)) (task_needs stage.kind stage.body k))) same in
+    ap (λ o. option_and_then (λ b. slice_get b.reads t) o) birth ∙ get_mapped (λ k. map (need_over (take s now.stages)) (task_needs stage.kind stage.body k)) 0 (part_count stage.body) t within
+    ∙ ap (λ k. Some (map (need_over (take s now.stages)) (task_needs stage.kind stage.body k))) same in
     let are : m.reads ≡ map (need_over (take s now.stages)) (task_needs stage.kind stage.body t) = ap (λ o. unwrap_or o m.reads) (sym m.task ∙ reads_are) in
     record {
       runs = run.0;
