@@ -1,6 +1,5 @@
 -- The plans of a run are of the forms that tasks carry out so far, and each of them has a part.
-use Rattle.std.proofs.Common.{◌≡◌, refl, ap, sym, subst, ◌∙◌, ◌≤◌, zero, suc, ℕ, Bool, true, false, List, [], ◌∷◌, length, arith}
-use Rattle.std.specs.Prelude.{All, IsTrue}
+use Rattle.std.proofs.Common.{refl, sym, subst, ◌≤◌, zero, suc, ℕ, length, arith}
 use Rattle.aqe_base.specs.declared.stage_id.StageId.{StageId}
 use Rattle.aqe_base.specs.declared.join_kind.JoinKind.{JoinKind}
 use Rattle.aqe_logical.specs.declared.plan.Logical.{Logical}
@@ -9,7 +8,6 @@ use Rattle.aqe_rects.specs.Rectangles.{plain_rect, plain_rects}
 use Rattle.aqe_physical.specs.declared.target.Target.{Target}
 use Rattle.aqe_physical.specs.declared.target.Target.TheVariants as target
 use Rattle.aqe_physical.specs.declared.target.JoinWay.{JoinWay}
-use Rattle.aqe_physical.specs.declared.target.StageKind.{StageKind}
 use Rattle.aqe_physical.specs.declared.plan.Plan.{Plan, OneRow, Scan, Nothing, Read, ReadBroadcast}
 use Rattle.aqe_physical.specs.Shapes.{kept, mapped, moved, matched, grouped, finished, ordered, cut_locally, cut_globally, both_of}
 use Rattle.aqe_physical.specs.Counts.{part_count, target_count}
@@ -24,8 +22,8 @@ use Rattle.aqe_logical.specs.WellFormed.{IsOfAQuery}
 use Rattle.aqe_logical.proofs.Nodes as logical_walk
 use Rattle.aqe_fit_laws.specs.Leaves.{IsPlannedYet}
 use Rattle.aqe_fit_laws.specs.Serving.{IsNoExchange}
-use Rattle.aqe_task.specs.Built.{IsBuiltBody, IsBuiltKind, is_built}
-use Rattle.std.proofs.lemmas.List.{length-map-range_with_len}
+use Rattle.aqe_task.specs.Built.{IsBuiltBody, IsBuiltKind}
+use Rattle.std.proofs.lemmas.List.FromFn.{length-map-range_with_len}
 
 -- such a plan has a part
 to_count : (to : Target) → IsBuiltTo to → 1 ≤ target_count to

@@ -1,27 +1,23 @@
 -- What holds of a run in which nothing but the rest ends tasks.
-use Rattle.std.proofs.Common.{◌≡◌, refl, ap, sym, subst, ◌∙◌, ◌≤◌, ◌<◌, ◌+◌, ◌==◌, zero, suc, ℕ, Bool, true, false, cond, not, ◌&&◌, ◌||◌, List, [], ◌∷◌, ◌++◌, length, map, take, arith, Option, Some, None, is_some, slice_get, length-append, inl, inr}
-use Rattle.std.specs.Prelude.{All, ◌⊎◌}
-use Rattle.std.specs.List.{list_any, range_with_len, find}
-use Rattle.std.specs.Option.{option_map, option_or, option_and_then}
-use Rattle.std.proofs.lemmas.Bool.{cases_Bool, cases_eq, cases_lt, eqb-true}
+use Rattle.std.proofs.Common.{◌≡◌, refl, ap, sym, ◌∙◌, ◌≤◌, ◌<◌, ◌==◌, zero, suc, ℕ, Bool, true, false, cond, ◌&&◌, ◌||◌, List, [], ◌∷◌, ◌++◌, length, arith, Option, Some, None, is_some, slice_get, length-append, inl, inr}
+use Rattle.std.specs.Option.{option_or}
+use Rattle.std.proofs.lemmas.Bool.{cases_Bool, cases_eq, eqb-true}
 use Rattle.std.proofs.lemmas.List.{append-nil, append_assoc}
-use Rattle.std.proofs.lemmas.List.Elements.{All-nil, All-cons, All-append, All-weaker}
-use Rattle.aqe_base.specs.declared.event.Event.{Event}
-use Rattle.aqe_scheduler.specs.declared.fate.Fate.{Fate}
+use Rattle.std.proofs.lemmas.List.Elements.{All-nil, All-cons, All-append}
 use Rattle.aqe_scheduler.specs.declared.fate.Fate.TheVariants as fate
 use Rattle.aqe_scheduler.specs.declared.need.Need.{Need}
-use Rattle.aqe_scheduler.specs.History.{Birth, Entry, Adds, Marks, Happens, Step, Added, Marked, Happened}
-use Rattle.aqe_scheduler.specs.Looks.{births, counts, counted, done, whole, task_count}
-use Rattle.aqe_scheduler.specs.Fates.{noted, step_of, task_reads, fates}
-use Rattle.aqe_scheduler.specs.Rest.{rest_of, rest_ending}
+use Rattle.aqe_scheduler.specs.History.{Birth, Step, Added, Marked, Happened}
+use Rattle.aqe_scheduler.specs.Looks.{births, counted, whole, task_count}
+use Rattle.aqe_scheduler.specs.Fates.{task_reads, fates}
+use Rattle.aqe_scheduler.specs.Rest.{rest_ending}
 use Rattle.aqe_scheduler.proofs.Behind.{births_more, counted_more}
 use Rattle.aqe_stages.specs.Stages.{Stage, Stages}
 use Rattle.aqe_journal.specs.Needed.{birth_over}
 use Rattle.aqe_calm.specs.Calm.{births_over, CalmHistory}
 use Rattle.aqe_endings.specs.Peace.{IsPeaceful, first_whole}
-use Rattle.aqe_endings.proofs.Histories.{births_same, done_more}
-use Rattle.aqe_endings.proofs.Wholes.{first_event, first_quiet, whole_marked, whole_added, unborn_whole, happened_event}
-use Rattle.aqe_endings.proofs.Endings.{MayEnd, next_counts, open_whole, whole_other}
+use Rattle.aqe_endings.proofs.Histories.{births_same}
+use Rattle.aqe_endings.proofs.Wholes.{first_event, first_quiet, whole_marked, whole_added}
+use Rattle.aqe_endings.proofs.Endings.{MayEnd, open_whole, whole_other}
 
 births_end : (before stages : Stages) (stage : Stage) → births_over before (stages ++ stage ∷ []) ≡ births_over before stages ++ birth_over (before ++ stages) stage ∷ []
 births_end before [] stage = ap (λ b. birth_over b stage ∷ []) (sym (append-nil before))

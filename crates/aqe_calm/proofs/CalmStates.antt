@@ -1,17 +1,13 @@
 -- The states that a run comes to in which nothing but the rest ends tasks.
-use Rattle.std.proofs.Common.{◌≡◌, refl, ap, sym, subst, ◌∙◌, ◌≤◌, ◌<◌, ◌+◌, zero, suc, ℕ, Bool, true, false, cond, not, ◌&&◌, List, [], ◌∷◌, ◌++◌, length, map, arith, Option, Some, None, slice_get, length-append, inl, inr}
+use Rattle.std.proofs.Common.{◌≡◌, refl, ap, sym, subst, ◌∙◌, ◌≤◌, ◌<◌, suc, ℕ, Bool, true, false, cond, not, ◌&&◌, List, [], ◌∷◌, ◌++◌, length, map, arith, Option, Some, None, slice_get, length-append, inl, inr}
 use Rattle.std.specs.Prelude.{All, ◌⊎◌}
-use Rattle.std.specs.List.{range_with_len}
 use Rattle.std.proofs.lemmas.Bool.{cases_Bool, cases_lt, cases_eq}
 use Rattle.std.proofs.lemmas.Option.{slice_get_past}
 use Rattle.aqe_endings.proofs.Wholes.{get_more, get_last}
 use Rattle.std.proofs.lemmas.List.{append-nil}
 use Rattle.std.proofs.lemmas.List.Elements.{All-nil, All-cons, All-append, All-weaker, All-head}
-use Rattle.aqe_base.specs.declared.event.Event.{Event}
 use Rattle.aqe_base.specs.declared.stage_id.StageId.{StageId}
-use Rattle.aqe_scheduler.specs.declared.fate.Fate.TheVariants as fate
-use Rattle.aqe_scheduler.specs.declared.need.Need.{Need}
-use Rattle.aqe_scheduler.specs.History.{Birth, Entry, Adds, Marks, Happens, Step, Added, Marked, Happened}
+use Rattle.aqe_scheduler.specs.History.{Entry, Adds, Marks, Happens, Happened}
 use Rattle.aqe_scheduler.specs.Fates.{noted}
 use Rattle.aqe_scheduler.specs.Rest.{rest_ending}
 use Rattle.aqe_scheduler.proofs.Taken.{noted_more}
@@ -19,9 +15,8 @@ use Rattle.aqe_physical.specs.declared.plan.Plan.{Plan}
 use Rattle.aqe_physical.specs.declared.target.StageKind.TheVariants as kind
 use Rattle.aqe_physical.specs.Counts.{part_count}
 use Rattle.aqe_physical.specs.Nodes.{nodes}
-use Rattle.aqe_physical.proofs.Nodes.{Each, each}
-use Rattle.aqe_stages.specs.Stages.{Stage, Stages, Given}
-use Rattle.aqe_stages.specs.Parts.{parts, given_by}
+use Rattle.aqe_physical.proofs.Nodes.{each}
+use Rattle.aqe_stages.specs.Stages.{Stage, Stages}
 use Rattle.aqe_stages.specs.Reads.{ReadsBelow, ReadsBelowAt}
 use Rattle.aqe_stages.specs.Making.{Made}
 use Rattle.aqe_stages.proofs.Later.{parts_stay}
@@ -33,12 +28,10 @@ use Rattle.aqe_making.proofs.Standing.{standing, are_ready, made_at}
 use Rattle.aqe_making.proofs.Stepping.{none_other}
 use Rattle.aqe_fit_laws.specs.Serving.{IsNoExchange, WithoutExchange}
 use Rattle.aqe_physical.proofs.Nodes.{all_nodes}
-use Rattle.aqe_task.specs.Built.{IsBuiltBody, IsBuiltKind}
 use Rattle.aqe_journal.specs.Asked.{Asked}
 use Rattle.aqe_journal.specs.Needed.{is_result, birth_over}
-use Rattle.aqe_journal.specs.States.{State, history, number_of, first_state, with_stage, with_event, with_marks, marks_of}
+use Rattle.aqe_journal.specs.States.{State, history, number_of, with_stage, with_event, with_marks, marks_of}
 use Rattle.aqe_journal.specs.LegalRecord.{has_result}
-use Rattle.aqe_journal.specs.declared.record.VersionNote.{VersionNote}
 use Rattle.aqe_journal.proofs.StagesRun.{step, result_step, marked, happened, body_each, no_exchange}
 use Rattle.aqe_endings.proofs.Endings.{MayEnd, next_counts}
 use Rattle.aqe_calm.specs.Forms.{IsBuiltNode, IsCarriedOut}
@@ -54,9 +47,8 @@ use Rattle.aqe_journal.specs.States.{is_whole}
 use Rattle.aqe_making.specs.After.{read_after}
 use Rattle.aqe_calm.proofs.Results.{no_result}
 use Rattle.aqe_stages.specs.Reads.{task_needs}
-use Rattle.aqe_values.specs.declared.value.Value.{Value}
 use Rattle.std.proofs.lemmas.List.{append_assoc}
-use Rattle.std.proofs.lemmas.List.{length-map-range_with_len}
+use Rattle.std.proofs.lemmas.List.FromFn.{length-map-range_with_len}
 
 below_any : (n : ℕ) (p : Plan) → ReadsBelow 0 p → ReadsBelow n p
 below_any n p h = All-weaker (ReadsBelowAt 0) (ReadsBelowAt n) (below_up 0 n (omega arith)) (nodes p) h
@@ -103,7 +95,7 @@ not_result : (number : StageId) (p q : Plan) (stage : Stage) → Made number p s
 not_result number p q stage m is = no_result number p q stage m is
 
 -- the stage of an exchange
-exchange_made : (asked : Asked) (first : Plan) (now : State) (making : Making) → Calm asked first now → stage_at making.place now.plan ≡ Some making.stage → WithoutExchange making.stage.body →
+pub exchange_made : (asked : Asked) (first : Plan) (now : State) (making : Making) → Calm asked first now → stage_at making.place now.plan ≡ Some making.stage → WithoutExchange making.stage.body →
     Calm asked first (with_stage now making)
 exchange_made asked first now making c at none =
     let number = number_of (length now.stages) in
@@ -123,7 +115,7 @@ exchange_made asked first now making c at none =
     }
 
 -- the result stage
-result_made : (asked : Asked) (first : Plan) (now : State) → Calm asked first now → WithoutExchange now.plan → Calm asked first (with_stage now (result_of now.plan))
+pub result_made : (asked : Asked) (first : Plan) (now : State) → Calm asked first now → WithoutExchange now.plan → Calm asked first (with_stage now (result_of now.plan))
 result_made asked first now c none =
     let stage : Stage = record { kind = kind.Result; body = now.plan } in
     let s = result_step asked now c.steady none in

@@ -1,17 +1,17 @@
 -- What follows of calm states: when a position is a turning point, when the query is done, and what its result holds.
-use Rattle.std.proofs.Common.{◌≡◌, refl, ap, sym, subst, ◌∙◌, ◌≤◌, ◌<◌, ◌+◌, zero, suc, ℕ, Bool, true, false, cond, not, ◌&&◌, ◌||◌, List, [], ◌∷◌, ◌++◌, length, map, arith, Option, Some, None, is_some, slice_get, slice_index_or, inl, inr}
-use Rattle.std.specs.Prelude.{All, nat_le}
+use Rattle.std.proofs.Common.{◌≡◌, refl, ap, sym, subst, ◌∙◌, ◌≤◌, ◌<◌, ◌+◌, zero, suc, ℕ, Bool, true, false, cond, not, ◌&&◌, ◌||◌, List, [], ◌∷◌, ◌++◌, length, arith, Some, None, is_some, inl, inr}
+use Rattle.std.specs.Prelude.{nat_le}
 use Rattle.std.specs.List.{list_any, range_with_len, find}
-use Rattle.std.specs.Option.{option_map, option_or, unwrap_or}
+use Rattle.std.specs.Option.{option_map, option_or}
 use Rattle.std.proofs.lemmas.Bool.{cases_eq, cases_Bool}
+use Rattle.std.proofs.lemmas.Bool.Decides.{nat_tests}
 use Rattle.aqe_scheduler.specs.declared.fate.Fate.TheVariants as fate
-use Rattle.aqe_scheduler.specs.History.{Happens, Step, Happened}
+use Rattle.aqe_scheduler.specs.History.{Happens, Happened}
 use Rattle.aqe_scheduler.specs.Looks.{births, whole, fails, streak}
-use Rattle.aqe_scheduler.specs.Fates.{noted}
 use Rattle.aqe_scheduler.specs.Positions.{upto}
 use Rattle.aqe_scheduler.specs.Rest.{places, rest_ending}
 use Rattle.aqe_scheduler.proofs.Taken.{noted_more}
-use Rattle.aqe_scheduler.proofs.Ready.{and_true, and_false}
+use Rattle.aqe_scheduler.proofs.Ready.{and_true}
 use Rattle.aqe_settings.specs.declared.entry.Value.{Value}
 use Rattle.aqe_settings.specs.declared.entry.Value.TheVariants as value
 use Rattle.aqe_settings.specs.declared.key.SettingKey.TheVariants as key
@@ -23,9 +23,8 @@ use Rattle.aqe_journal.specs.Asked.{Asked}
 use Rattle.aqe_journal.specs.States.{State, history, positions, is_whole, is_materialised, with_event, is_turning}
 use Rattle.aqe_journal.specs.LegalRecord.{failed_task, failed_stage, aborted, stage_aborted, is_done, reached}
 use Rattle.aqe_journal.specs.declared.record.Finish.TheVariants as finish
-use Rattle.aqe_endings.specs.Peace.{first_whole}
 use Rattle.aqe_endings.proofs.Endings.{MayEnd, next_counts, whole_other, no_fails, no_streak}
-use Rattle.aqe_calm.specs.Calm.{CalmHistory, Calm}
+use Rattle.aqe_calm.specs.Calm.{Calm}
 use Rattle.aqe_calm.proofs.Calm.{stage_there, not_whole}
 
 -- a test that some item passes is whether one is found
@@ -80,9 +79,15 @@ find_never : {X : Type 0} (p : X → Bool) (xs : List X) → ((x : X) → p x �
 find_never p [] never = refl
 find_never p (x ∷ xs) never = ap (λ b. cond b (Some x) (find p xs)) (never x) ∙ find_never p xs never
 
+-- no number that is at least 1 is at most 0
+above_none : (n : ℕ) → 1 ≤ n → nat_le n 0 ≡ false
+above_none n some = elim (cases_Bool (nat_le n 0)) as (λ w. nat_le n 0 ≡ false) [
+  | inl is ↦ let le : n ≤ 0 = grind (arith, nat_tests, is) in absurd (omega (arith, le, some))
+  | inr is ↦ is
+]
+
 max_failures : (v : Value) → Takes (row_of key.MaxFailures) v → nat_le (number_or 0 v) 0 ≡ false
-max_failures (value.Number zero) t = absurd (omega (arith, t.0))
-max_failures (value.Number (suc n)) t = refl
+max_failures (value.Number n) t = above_none n t.0
 max_failures (value.Flag on) t = absurd t
 max_failures (value.Threshold n) t = absurd t
 max_failures value.Unset t = absurd (unset t)
@@ -91,8 +96,7 @@ max_failures value.Unset t = absurd (unset t)
     unset e = cc (e)
 
 max_attempts : (v : Value) → Takes (row_of key.MaxAttempts) v → nat_le (number_or 0 v) 0 ≡ false
-max_attempts (value.Number zero) t = absurd (omega (arith, t.0))
-max_attempts (value.Number (suc n)) t = refl
+max_attempts (value.Number n) t = above_none n t.0
 max_attempts (value.Flag on) t = absurd t
 max_attempts (value.Threshold n) t = absurd t
 max_attempts value.Unset t = absurd (unset t)

@@ -1,5 +1,5 @@
 -- Each state of a run in which nothing but the rest ends tasks is calm.
-use Rattle.std.proofs.Common.{◌≡◌, refl, ap, sym, subst, ◌∙◌, ◌≤◌, ◌+◌, Option, ℕ, Bool, true, false, cond, not, ◌&&◌, List, [], ◌∷◌, ◌++◌, length, fold, arith, Some, None, slice_get, length-append, inl, inr}
+use Rattle.std.proofs.Common.{◌≡◌, refl, ap, sym, subst, ◌∙◌, ◌≤◌, Option, ℕ, Bool, true, false, cond, not, ◌&&◌, List, [], ◌∷◌, ◌++◌, length, fold, arith, Some, None, slice_get, length-append, inl, inr}
 use Rattle.std.specs.Prelude.{All}
 use Rattle.std.specs.Option.{unwrap_or, option_map}
 use Rattle.std.proofs.lemmas.Bool.{cases_Bool}
@@ -10,8 +10,8 @@ use Rattle.aqe_logical.specs.WellFormed.{IsOfAQuery}
 use Rattle.aqe_logical.proofs.Nodes as logical_walk
 use Rattle.aqe_settings.specs.Values.{partitions}
 use Rattle.aqe_physical.specs.declared.plan.Plan.{Plan}
-use Rattle.aqe_physical.proofs.Nodes.{each, all_nodes}
-use Rattle.aqe_making.specs.Makings.{Making, makings, all_makings, result_of}
+use Rattle.aqe_physical.proofs.Nodes.{all_nodes}
+use Rattle.aqe_making.specs.Makings.{Making, makings, result_of}
 use Rattle.aqe_making.specs.Ready.{is_ready}
 use Rattle.aqe_making.specs.After.{stage_at}
 use Rattle.aqe_making.proofs.Standing.{standing, are_ready}
@@ -21,16 +21,15 @@ use Rattle.aqe_fitting.specs.InForce.{in_force}
 use Rattle.aqe_fitting.specs.Ways.{ways_by_sizes}
 use Rattle.aqe_fit_laws.specs.Serving.{IsNoExchange, WithoutExchange}
 use Rattle.aqe_fit_laws.specs.Leaves.{IsPlannedYet}
-use Rattle.aqe_scheduler.specs.Fates.{noted}
 use Rattle.aqe_scheduler.specs.Rest.{rest_of, rest_ending}
 use Rattle.aqe_journal.specs.Asked.{Asked}
-use Rattle.aqe_journal.specs.States.{State, history, position, first_state, with_stage, with_event, with_marks, is_materialised, number_of}
+use Rattle.aqe_journal.specs.States.{State, history, position, first_state, with_stage, with_event, is_materialised, number_of}
 use Rattle.aqe_journal.specs.Restrictions.{RunsAlone}
-use Rattle.aqe_journal.specs.LegalRecord.{IsFirst, PlansAgain, never, keeps, adopts, Takes, goes_on, turns, settled, has_result, next_event, rest_event, event_or_rest, SoFar, begun, one_on}
+use Rattle.aqe_journal.specs.LegalRecord.{IsFirst, PlansAgain, never, keeps, adopts, Takes, goes_on, turns, settled, has_result, next_event, event_or_rest, begun, one_on}
 use Rattle.aqe_journal.specs.Laws.{IsSound}
 use Rattle.aqe_journal.proofs.Born.{not_materialised}
 use Rattle.aqe_journal.proofs.StagesRun.{start, no_exchange}
-use Rattle.aqe_endings.proofs.Endings.{MayEnd, next_may_end}
+use Rattle.aqe_endings.proofs.Endings.{next_may_end}
 use Rattle.aqe_calm.specs.Forms.{IsBuiltNode}
 use Rattle.aqe_calm.specs.Calm.{Calm}
 use Rattle.aqe_calm.specs.Forms.{IsCarriedOut}

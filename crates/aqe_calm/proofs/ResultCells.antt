@@ -1,14 +1,11 @@
 -- The result stage of a calm state has the parts of the first plan, each as one cell.
-use Rattle.std.proofs.Common.{◌≡◌, refl, ap, sym, subst, ◌∙◌, ◌≤◌, ◌<◌, ◌+◌, zero, suc, ℕ, Bool, true, false, List, [], ◌∷◌, ◌++◌, length, map, arith, Option, Some, None, slice_get, slice_index_or, length-append}
-use Rattle.std.specs.Prelude.{All}
+use Rattle.std.proofs.Common.{◌≡◌, refl, ap, sym, subst, ◌∙◌, ◌<◌, zero, suc, ℕ, true, false, List, [], ◌∷◌, ◌++◌, length, map, arith, Some, None, slice_get, slice_index_or, length-append}
 use Rattle.std.specs.Option.{unwrap_or}
 use Rattle.std.proofs.lemmas.List.{append_assoc}
-use Rattle.std.proofs.lemmas.List.Elements.{All-weaker}
-use Rattle.aqe_logical.specs.Answers.{Row, Tables}
+use Rattle.aqe_logical.specs.Answers.{Row}
 use Rattle.aqe_physical.specs.declared.plan.Plan.{Plan}
 use Rattle.aqe_physical.specs.declared.target.StageKind.{StageKind}
 use Rattle.aqe_physical.specs.declared.target.StageKind.TheVariants as kind
-use Rattle.aqe_physical.specs.Nodes.{nodes}
 use Rattle.aqe_stages.specs.Stages.{Stage, Stages, Given, output_of}
 use Rattle.aqe_stages.specs.Parts.{parts, given_by, cells, output}
 use Rattle.aqe_stages.specs.Places.{cells_of}

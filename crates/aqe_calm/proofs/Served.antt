@@ -1,5 +1,5 @@
 -- A task that may end next is served where the outputs of all counted tasks are kept.
-use Rattle.std.proofs.Common.{◌≡◌, refl, ap, sym, subst, ◌∙◌, ◌≤◌, ◌<◌, ◌+◌, ◌-◌, zero, suc, ℕ, Bool, true, false, ◌&&◌, List, [], ◌∷◌, ◌++◌, length, map, take, arith, Option, Some, None, slice_get, slice_index_or, inl, inr}
+use Rattle.std.proofs.Common.{◌≡◌, ap, sym, subst, ◌∙◌, ◌≤◌, ◌<◌, ◌+◌, ◌-◌, zero, suc, ℕ, Bool, true, false, List, [], ◌∷◌, ◌++◌, map, take, arith, Some, None, slice_get, inl, inr}
 use Rattle.std.specs.Prelude.{All}
 use Rattle.aqe_base.specs.declared.cells.Rect.{Rect}
 use Rattle.aqe_base.specs.declared.stage_id.StageId.{StageId}
@@ -7,7 +7,7 @@ use Rattle.std.proofs.lemmas.Bool.{cases_eq}
 use Rattle.std.specs.List.{list_all, range_with_len}
 use Rattle.std.specs.Option.{unwrap_or, option_and_then}
 use Rattle.std.proofs.lemmas.List.{append-nil, append_assoc}
-use Rattle.std.proofs.lemmas.List.Elements.{All-nil, All-cons, All-append, All-head, All-tail}
+use Rattle.std.proofs.lemmas.List.Elements.{All-nil, All-cons, All-head, All-tail}
 use Rattle.aqe_logical.specs.Answers.{Tables}
 use Rattle.aqe_physical.specs.declared.plan.Plan.{Plan, OneRow, Scan, Nothing, Read, ReadBroadcast}
 use Rattle.aqe_physical.specs.Shapes.{kept, mapped, moved, matched, grouped, finished, ordered, cut_locally, cut_globally, both_of}
@@ -19,15 +19,14 @@ use Rattle.aqe_blocks.specs.Kept.{AllKept}
 use Rattle.aqe_stages.specs.Stages.{Stage, Stages}
 use Rattle.aqe_stages.specs.Reads as reads
 use Rattle.aqe_stages.specs.Reads.{needs, task_needs}
-use Rattle.aqe_scheduler.specs.declared.need.Need.{Need}
-use Rattle.aqe_scheduler.specs.History.{Birth, Step}
+use Rattle.aqe_scheduler.specs.History.{Step}
 use Rattle.aqe_scheduler.specs.Looks.{births, done}
-use Rattle.aqe_scheduler.specs.Fates.{has_inputs, task_reads, maps_of}
+use Rattle.aqe_scheduler.specs.Fates.{has_inputs, task_reads}
 use Rattle.aqe_task.specs.Built.{IsBuiltBody, IsBuiltKind}
 use Rattle.aqe_task.specs.Tasks.{IsKept, IsMet}
-use Rattle.aqe_journal.specs.Needed.{need_over, birth_over, reads_of}
+use Rattle.aqe_journal.specs.Needed.{need_over, birth_over}
 use Rattle.aqe_calm.specs.Calm.{births_over}
-use Rattle.std.proofs.lemmas.List.{length-map-range_with_len}
+use Rattle.std.proofs.lemmas.List.FromFn.{length-map-range_with_len}
 use Rattle.aqe_scheduler.specs.Looks.{counted, task_count, tasks_in}
 use Rattle.aqe_task.specs.Tasks.{IsServedTask}
 use Rattle.aqe_journal.specs.Asked.{Asked}
@@ -140,5 +139,5 @@ served asked first now place stage outputs c m is all_kept =
       runs = run.0;
       keeps = run.1;
       within = within;
-      reads = task_met asked.tables now.stages (take s now.stages) outputs h (λ p k d. all_kept p k (done_counted h p k d)) stage.kind stage.body t forms.1.0 forms.0 (ap (has_inputs (done h)) (sym are) ∙ m.inputs);
+      reads = task_met asked.tables now.stages (take s now.stages) outputs h (λ p k d. all_kept p k (done_counted h p k d)) stage.kind stage.body t forms.1 forms.0 (ap (has_inputs (done h)) (sym are) ∙ m.inputs);
     }
