@@ -1,7 +1,7 @@
 -- What holds of a run in which nothing but the rest ends tasks.
 use Rattle.std.proofs.Common.{◌≡◌, refl, ap, sym, ◌∙◌, ◌≤◌, ◌<◌, ◌==◌, zero, suc, ℕ, Bool, true, false, cond, ◌&&◌, ◌||◌, List, [], ◌∷◌, ◌++◌, length, arith, Option, Some, None, is_some, slice_get, length-append, inl, inr}
 use Rattle.std.specs.Option.{option_or}
-use Rattle.std.proofs.lemmas.Bool.{cases_Bool, cases_eq, eqb-true}
+use Rattle.std.proofs.lemmas.Bool.{cases_Bool, eqb-true}
 use Rattle.std.proofs.lemmas.List.{append-nil, append_assoc}
 use Rattle.std.proofs.lemmas.List.Elements.{All-nil, All-cons, All-append}
 use Rattle.aqe_scheduler.specs.declared.fate.Fate.TheVariants as fate
@@ -17,7 +17,7 @@ use Rattle.aqe_calm.specs.Calm.{births_over, CalmHistory}
 use Rattle.aqe_endings.specs.Peace.{IsPeaceful, first_whole}
 use Rattle.aqe_endings.proofs.Histories.{births_same}
 use Rattle.aqe_endings.proofs.Wholes.{first_event, first_quiet, whole_marked, whole_added}
-use Rattle.aqe_endings.proofs.Endings.{MayEnd, open_whole, whole_other}
+use Rattle.aqe_endings.proofs.Endings.{MayEnd, open_whole, whole_stays}
 
 births_end : (before stages : Stages) (stage : Stage) → births_over before (stages ++ stage ∷ []) ≡ births_over before stages ++ birth_over (before ++ stages) stage ∷ []
 births_end before [] stage = ap (λ b. birth_over b stage ∷ []) (sym (append-nil before))
@@ -88,16 +88,6 @@ stage_there stages h place c m =
 
 pub not_whole : (stages : Stages) (h : List Step) (place : ℕ × ℕ) → CalmHistory stages h → MayEnd h place → whole h place.0 ≡ false
 not_whole stages h place c m = open_whole h place.0 place.1 (stage_there stages h place c m).1 m.undone
-
--- what was whole stays so
-pub whole_stays : (h : List Step) (place : ℕ × ℕ) → whole h place.0 ≡ false → (s : ℕ) → whole h s ≡ true → whole (h ++ Happened (rest_ending place) fate.Counted ∷ []) s ≡ true
-whole_stays h place not_yet s is = elim (cases_eq place.0 s) as (λ w. whole (h ++ Happened (rest_ending place) fate.Counted ∷ []) s ≡ true) [
-  | inl same ↦ absurd (clash (sym not_yet ∙ ap (λ k. whole h k) same ∙ is))
-  | inr apart ↦ whole_other h place fate.Counted s apart ∙ is
-]
-  where
-    clash : false ≡ true → ⊥
-    clash e = cc (e)
 
 -- the ending of a task that may end
 pub calm_ended : (stages : Stages) (h : List Step) (place : ℕ × ℕ) → CalmHistory stages h → MayEnd h place → CalmHistory stages (h ++ Happened (rest_ending place) fate.Counted ∷ [])

@@ -25,7 +25,7 @@ use Rattle.aqe_scheduler.specs.Rest.{rest_of, rest_ending}
 use Rattle.aqe_journal.specs.Asked.{Asked}
 use Rattle.aqe_journal.specs.States.{State, history, position, first_state, with_stage, with_event, is_materialised, number_of}
 use Rattle.aqe_journal.specs.Restrictions.{RunsAlone}
-use Rattle.aqe_journal.specs.LegalRecord.{IsFirst, PlansAgain, never, keeps, adopts, Takes, goes_on, turns, settled, has_result, next_event, event_or_rest, begun, one_on}
+use Rattle.aqe_journal.specs.LegalRecord.{SoFar, IsFirst, PlansAgain, never, keeps, adopts, Takes, goes_on, turns, settled, has_result, next_event, event_or_rest, begun, one_on}
 use Rattle.aqe_journal.specs.Laws.{IsSound}
 use Rattle.aqe_journal.proofs.Born.{not_materialised}
 use Rattle.aqe_journal.proofs.StagesRun.{start, no_exchange}
@@ -33,7 +33,13 @@ use Rattle.aqe_endings.proofs.Endings.{next_may_end}
 use Rattle.aqe_calm.specs.Forms.{IsBuiltNode}
 use Rattle.aqe_calm.specs.Calm.{Calm}
 use Rattle.aqe_calm.specs.Forms.{IsCarriedOut}
-use Rattle.aqe_calm.specs.Laws.{RestRunsAreCalm}
+use Rattle.aqe_stages.specs.Cells.{all_rows}
+use Rattle.aqe_journal.specs.LegalRecord.{rows_of}
+use Rattle.aqe_calm.specs.Calm.{parts_over}
+use Rattle.aqe_calm.specs.Laws.{RestRunsAreCalm, WholeStagesTurn, RestRunsEndDone, NextTasksAreServed, ResultsHoldTheRows}
+use Rattle.aqe_calm.proofs.Served.{served}
+use Rattle.aqe_calm.proofs.Consequences.{turning_whole, only_done}
+use Rattle.aqe_calm.proofs.ResultCells.{result_cells, all_single}
 use Rattle.aqe_calm.proofs.BuiltPlans.{built_first}
 use Rattle.aqe_calm.proofs.Calm.{nothing_yet}
 use Rattle.aqe_calm.proofs.CalmStates.{exchange_made, result_made, calm_event, calm_with_marks}
@@ -112,10 +118,27 @@ next_is_rest asked now event alone next =
     at None e is = absurd (none (sym (ap (option_map rest_ending) e) ∙ is))
     at (Some place) e is = record { place = place; next = e; is = sym (ap (λ x. unwrap_or x event) (sym (ap (option_map rest_ending) e) ∙ is)) }
 
-pub rest_runs_calm : RestRunsAreCalm
-rest_runs_calm asked now sound alone (begun plan fits) =
+calm_run : (asked : Asked) (now : State) → IsSound asked → RunsAlone asked → SoFar asked now → (first : Plan) × IsFirst asked first × Calm asked first now
+calm_run asked now sound alone (begun plan fits) =
     (plan, fits, calm_with_marks asked plan (settled (first_state asked.query plan)) (calm_settled asked plan (first_state asked.query plan) (calm_begun asked plan sound fits)))
-rest_runs_calm asked now sound alone (one_on before next event far r n t) =
-    let c = rest_runs_calm asked before sound alone far in
+calm_run asked now sound alone (one_on before next event far r n t) =
+    let c = calm_run asked before sound alone far in
     let rest = next_is_rest asked before event alone n in
     (c.0, c.1, taken_calm asked c.0 before next event t (subst (λ e. Calm asked c.0 (with_event before e)) (sym rest.is) (calm_event asked c.0 before rest.place c.2 (next_may_end (history before) rest.place rest.next))))
+
+pub rest_runs_calm : RestRunsAreCalm
+rest_runs_calm asked now r = calm_run asked now r.sound r.alone r.runs
+
+pub whole_turn : WholeStagesTurn
+whole_turn asked now place r next = let c = rest_runs_calm asked now r in turning_whole asked c.0 now place c.2 (next_may_end (history now) place next)
+
+pub end_done : RestRunsEndDone
+end_done asked now range r = let c = rest_runs_calm asked now r in only_done asked c.0 now range c.2
+
+pub next_served : NextTasksAreServed
+next_served asked now place stage outputs r next is all_kept = let c = rest_runs_calm asked now r in served asked c.0 now place stage outputs c.2 (next_may_end (history now) place next) is all_kept
+
+pub results_rows : ResultsHoldTheRows
+results_rows asked now s stage r is result =
+    let c = rest_runs_calm asked now r in
+    ap (rows_of asked now) c.2.versions ∙ sym (all_single (parts_over asked now.stages c.0)) ∙ ap all_rows (sym (result_cells asked c.0 now s stage c.2 is result))

@@ -1,7 +1,9 @@
 -- The result stage of a calm state has the parts of the first plan, each as one cell.
 use Rattle.std.proofs.Common.{◌≡◌, refl, ap, sym, subst, ◌∙◌, ◌<◌, zero, suc, ℕ, true, false, List, [], ◌∷◌, ◌++◌, length, map, arith, Some, None, slice_get, slice_index_or, length-append}
 use Rattle.std.specs.Option.{unwrap_or}
-use Rattle.std.proofs.lemmas.List.{append_assoc}
+use Rattle.std.proofs.lemmas.List.{append_assoc, append-nil}
+use Rattle.aqe_partial.specs.PartialRows.{joined_parts}
+use Rattle.aqe_stages.specs.Cells.{all_rows}
 use Rattle.aqe_logical.specs.Answers.{Row}
 use Rattle.aqe_physical.specs.declared.plan.Plan.{Plan}
 use Rattle.aqe_physical.specs.declared.target.StageKind.{StageKind}
@@ -72,3 +74,8 @@ result_cells asked first now s stage c e result =
     ∙ last_or g (output asked.tables g stage) []
     ∙ single_cells stage.kind result g body body
     ∙ ap (map (λ part. part ∷ [])) (sym same ∙ a.1 result)
+
+-- the rows of parts that are one cell each
+pub all_single : (ps : List (List Row)) → all_rows (map (λ part. part ∷ []) ps) ≡ joined_parts ps
+all_single [] = refl
+all_single (part ∷ ps) = λ i. append-nil part i ++ all_single ps i

@@ -16,6 +16,7 @@ use Rattle.aqe_scheduler.specs.Fates.{fate_of, judged, task_reads, has_inputs}
 use Rattle.aqe_scheduler.specs.Rest.{tasks_of, places, may_end, rest_of, rest_ending}
 use Rattle.aqe_scheduler.proofs.Ready.{and_false}
 use Rattle.aqe_endings.specs.Peace.{IsPeaceful}
+use Rattle.aqe_endings.specs.Laws.{NextEndingsCount, WholeStagesStay}
 use Rattle.aqe_endings.proofs.Histories.{births_same, done_more}
 use Rattle.aqe_endings.proofs.Wholes.{range_all}
 
@@ -172,3 +173,34 @@ no_streak (x ∷ h) all s = (λ i. cond (none x (All-head IsPeaceful x h all) i 
     none (Happened (Failed stage task on) f) q = absurd q
     none (Happened (Lost on) f) q = absurd q
     none (Happened (Fetch stage task on parent m) f) q = absurd q
+
+-- what was whole stays so
+pub whole_stays : (h : List Step) (place : ℕ × ℕ) → whole h place.0 ≡ false → (s : ℕ) → whole h s ≡ true → whole (h ++ Happened (rest_ending place) fate.Counted ∷ []) s ≡ true
+whole_stays h place not_yet s is = elim (cases_eq place.0 s) as (λ w. whole (h ++ Happened (rest_ending place) fate.Counted ∷ []) s ≡ true) [
+  | inl same ↦ absurd (clash (sym not_yet ∙ ap (λ k. whole h k) same ∙ is))
+  | inr apart ↦ whole_other h place fate.Counted s apart ∙ is
+]
+
+task_below : (bs : List Birth) (s t : ℕ) (reads : List Need) → task_reads bs s t ≡ Some reads → t < task_count bs s
+task_below [] s t reads e = absurd (none e)
+  where
+    none : None ≡ Some reads → ⊥
+    none n = cc (n)
+task_below (b ∷ bs) zero t reads e = get_below b.reads t reads e
+  where
+    get_below : {X : Type 0} (xs : List X) (i : ℕ) (x : X) → slice_get xs i ≡ Some x → i < length xs
+    get_below {X = X} [] i x g = absurd (none g)
+      where
+        none : None ≡ Some x → ⊥
+        none n = cc (n)
+    get_below (y ∷ ys) zero x g = omega arith
+    get_below (y ∷ ys) (suc i) x g = let rest = get_below ys i x g in omega (arith, rest)
+task_below (b ∷ bs) (suc s) t reads e = task_below bs s t reads e
+
+pub next_ending_counts : NextEndingsCount
+next_ending_counts h place next = next_counts h place (next_may_end h place next)
+
+pub wholes_stay : WholeStagesStay
+wholes_stay h place s next is =
+    let m = next_may_end h place next in
+    whole_stays h place (open_whole h place.0 place.1 (task_below (births h) place.0 place.1 m.reads m.task) m.undone) s is

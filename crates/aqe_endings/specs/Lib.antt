@@ -1,1 +1,2 @@
 pub mod Peace
+pub mod Laws

@@ -1,2 +1,6 @@
-//! Laws of histories whose events are endings of tasks.
+//! Histories in which tasks end and nothing is lost.
 #![tactic(auto)]
+
+mod laws;
+
+pub use laws::{marks_may_repeat, next_endings_count, whole_stages_stay};
