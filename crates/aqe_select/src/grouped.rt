@@ -1,6 +1,7 @@
 //! Whether a SELECT is grouped.
 
 ghost use Rattle.std.specs.Prelude.{◌≡◌};
+ghost use Rattle.std.specs.List.{list_any};
 ghost use Rattle.aqe_rules.specs.Selects as spec;
 ghost use Rattle.aqe_select.specs.Clauses as clauses_of;
 
@@ -34,6 +35,20 @@ fn is_empty<T>(items: &[T]) -> bool
     items.split_first().is_none()
 }
 
+/// Whether an item of the select list calls an aggregate function.
+fn list_has_aggregate(list: &[ItemTree]) -> bool
+    ensures { result ≡ list_any spec.item_has_aggregate list.now }
+{
+    list.iter().any(|item| item_has_aggregate(item))
+}
+
+/// Whether a key of the ORDER BY calls an aggregate function.
+fn order_has_aggregate(sorts: &[SortTree]) -> bool
+    ensures { result ≡ list_any spec.sort_has_aggregate sorts.now }
+{
+    sorts.iter().any(|sort| sort_has_aggregate(sort))
+}
+
 /// Whether a query is grouped: it has GROUP BY, HAVING, or an aggregate call in its select list or ORDER BY.
 fn is_grouped(
     list: &[ItemTree],
@@ -43,10 +58,16 @@ fn is_grouped(
 ) -> bool
     ensures { result ≡ spec.is_grouped list.now group.now having.now sorts.now }
 {
-    !is_empty(group)
-        || having.is_some()
-        || list.iter().any(|item| item_has_aggregate(item))
-        || sorts.iter().any(|sort| sort_has_aggregate(sort))
+    if !is_empty(group) {
+        return true;
+    }
+    if having.is_some() {
+        return true;
+    }
+    if list_has_aggregate(list) {
+        return true;
+    }
+    order_has_aggregate(sorts)
 }
 
 /// Whether a SELECT is not grouped and has no order.
