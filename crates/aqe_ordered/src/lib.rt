@@ -11,4 +11,5 @@ mod sorting;
 pub use hiding::{Hiding, ShownAlone};
 pub use limit::cut;
 pub use order::{Order, order_of};
+pub use positions::bad_position;
 pub use sorted::{ordered, shown_columns, sorted_by, without_hidden};

@@ -35,7 +35,7 @@ fn written(alloc: Global, negative: bool, n: u64) -> Result<Text, Memory>
 }
 
 /// The refusal of a number at which no output column stands.
-fn bad_position(alloc: Global, negative: bool, n: u64) -> AnalysisFault
+pub fn bad_position(alloc: Global, negative: bool, n: u64) -> AnalysisFault
     ensures { Tells result (refused BadPosition (spec.written negative n)) }
 {
     match written(alloc, negative, n) {

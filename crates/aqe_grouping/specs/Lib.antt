@@ -1,0 +1,4 @@
+pub mod Keys
+pub mod Several
+pub mod Spreads
+pub mod Places
