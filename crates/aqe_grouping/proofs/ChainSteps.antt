@@ -62,9 +62,9 @@ module _ (keys : List Expr) (names : List (List ℕ)) where
 
   pub list_ended : (ls : Operands) (made : Result (List Expr) AnalysisFault) (r : Result Operands AnalysisFault) {whole : Outcome Operands} → ((i : Expr) (more : Operands) → ls ≢ chain.More i more) →
       ListLeft made ls whole → MatchResult made (λ items. Gives r (λ l. l ≡ in_front items list.End)) (λ f. r ≡ Err f) → Says r whole
-  list_ended list.End made r no left m =
+  list_ended list.End made r never left m =
       subst (λ (o : Outcome Operands). Says r o) (list_end left.0 ∙ left.2) (on_one made r left.0 (λ es. in_front es list.End) left.1 m)
-  list_ended (operand i more) made r no left m = absurd (no i more (sym (is_operand i more)))
+  list_ended (operand i more) made r never left m = absurd (never i more (sym (is_operand i more)))
 
   -- the same of pairs
   abbrev pairs_whole : Outcome (List (Expr × Expr)) → CasePairs → Outcome CasePairs
@@ -103,6 +103,6 @@ module _ (keys : List Expr) (names : List (List ℕ)) where
   pub pairs_ended : (ls : CasePairs) (made : Result (List (Expr × Expr)) AnalysisFault) (r : Result CasePairs AnalysisFault) {whole : Outcome CasePairs} →
       ((t g : Expr) (more : CasePairs) → ls ≢ arms.More t g more) → PairsLeft made ls whole →
       MatchResult made (λ items. Gives r (λ l. l ≡ pairs_in_front items pairs.End)) (λ f. r ≡ Err f) → Says r whole
-  pairs_ended pairs.End made r no left m =
+  pairs_ended pairs.End made r never left m =
       subst (λ (o : Outcome CasePairs). Says r o) (pairs_end left.0 ∙ left.2) (on_one made r left.0 (λ ps. pairs_in_front ps pairs.End) left.1 m)
-  pairs_ended (pair t g more) made r no left m = absurd (no t g more (sym (is_pair t g more)))
+  pairs_ended (pair t g more) made r never left m = absurd (never t g more (sym (is_pair t g more)))

@@ -1,14 +1,6 @@
--- Forms over what their parts came to, and several parts together.
-use Rattle.std.proofs.Common.{◌≡◌, Result, Ok, Err, refl, ◌∙◌}
+-- What is made of one value, of two and of three, as far as they are there.
+use Rattle.std.proofs.Common.{◌≡◌, Result, Ok, Err, refl}
 use Rattle.std.specs.Prelude.{MatchResult}
-use Rattle.aqe_expr.specs.declared.expr.UnaryOp.{UnaryOp}
-use Rattle.aqe_expr.specs.declared.expr.BinaryOp.{BinaryOp}
-use Rattle.aqe_expr.specs.declared.expr.Expr.{Expr}
-use Rattle.aqe_expr.specs.declared.expr.Expr.TheVariants.{Unary, Binary, Between, OneOf, Case, Switch}
-use Rattle.aqe_expr.specs.declared.expr.Operands.{Operands}
-use Rattle.aqe_expr.specs.declared.expr.CasePairs.{CasePairs}
-use Rattle.aqe_expr.specs.Shapes.{unary_of, binary_of, between_of, one_of, case_of, switch_of}
-use Rattle.aqe_expr.proofs.Shapes.{is_unary, is_binary, is_between, is_one_of, is_case, is_switch}
 use Rattle.aqe_rules.specs.declared.fault.AnalysisFault.{AnalysisFault}
 use Rattle.aqe_rules.specs.Faults.{Says, Fails}
 use Rattle.aqe_rules.specs.Outcomes.{Outcome, upon}
@@ -16,27 +8,6 @@ use Rattle.aqe_rules.proofs.Steps.{memory_fails}
 use Rattle.aqe_typing.proofs.StepLemmas.{upon_fails}
 use Rattle.aqe_sources.specs.Given.{Gives}
 use Rattle.aqe_sources.specs.Pairs.{both_of}
-
--- the forms as the code makes them
-pub unary_made : (e : Expr) (op : UnaryOp) (a : Expr) → e ≡ Unary op a → e ≡ unary_of op a
-unary_made e op a is = is ∙ is_unary op a
-
-pub binary_made : (e : Expr) (op : BinaryOp) (l r : Expr) → e ≡ Binary op l r → e ≡ binary_of op l r
-binary_made e op l r is = is ∙ is_binary op l r
-
-pub between_made : (e v l h : Expr) → e ≡ Between v l h → e ≡ between_of v l h
-between_made e v l h is = is ∙ is_between v l h
-
-pub one_of_made : (e v : Expr) (l : Operands) → e ≡ OneOf v l → e ≡ one_of v l
-one_of_made e v l is = is ∙ is_one_of v l
-
-pub case_made : (e : Expr) (p : CasePairs) (o : Expr) → e ≡ Case p o → e ≡ case_of p o
-case_made e p o is = is ∙ is_case p o
-
-pub switch_made : (e v : Expr) (p : CasePairs) (o : Expr) → e ≡ Switch v p o → e ≡ switch_of v p o
-switch_made e v p o is = is ∙ is_switch v p o
-
-pub ruleset shape_steps = (unary_made, binary_made, between_made, one_of_made, case_made, switch_made)
 
 -- what is made of a value, as far as that is there
 pub given : {T : Type 0} (r : Result T AnalysisFault) (o : Outcome T) (x : T) → o ≡ Ok x → Gives r (λ e. e ≡ x) → Says r o

@@ -17,7 +17,7 @@ use Rattle.aqe_grouping.specs.Places.{is_shown, shown_value, shown_values, item_
 -- one column
 module _ (columns : List Named) (item : ItemTree) (column : Named) (place : ℕ) where
   pub passed_over : is_shown item column ≡ false → place ≡ length (shown_value item column) + place
-  passed_over e = rw e refl
+  passed_over e = rw e (omega arith)
 
   pub counted : (left : ℕ) → is_shown item column ≡ true → left + 1 ≡ place → place ≡ length (shown_value item column) + left
   counted left e h = rw (e, ← h) (omega arith)
@@ -58,8 +58,12 @@ pub ruleset item_steps = (all_found, all_of_found, expression_found)
 -- values behind others, and in front of others
 module _ (columns : List Named) where
   behind_them : {A : Type 0} (xs ys : List A) (n : ℕ) → slice_get (xs ++ ys) (length xs + n) ≡ slice_get ys n
-  behind_them [] ys n = refl
-  behind_them (x ∷ xs) ys n = behind_them xs ys n
+  behind_them [] ys n =
+      let none : 0 + n ≡ n = omega arith in
+      ap (slice_get ys) none
+  behind_them (x ∷ xs) ys n =
+      let next : suc (length xs) + n ≡ suc (length xs + n) = omega arith in
+      ap (slice_get (x ∷ xs ++ ys)) next ∙ behind_them xs ys n
 
   in_front_of : {A : Type 0} (xs ys : List A) (n : ℕ) (x : A) → slice_get xs n ≡ Some x → slice_get (xs ++ ys) n ≡ Some x
   in_front_of [] ys n x e = absurd (cc e)
@@ -74,9 +78,9 @@ module _ (columns : List Named) where
       omega (arith, all, h)
 
   among_more : (xs ys : List (Outcome Typed)) (n : ℕ) (found : Landing) → ((m : ℕ) → found ≢ landing.Behind m) → IsAt columns xs n found → IsAt columns (xs ++ ys) n found
-  among_more xs ys n (landing.Column c) no h = in_front_of xs ys n (Ok c.now.value) h
-  among_more xs ys n (landing.Expression v) no h = in_front_of xs ys n (read v.now (over columns)).value h
-  among_more xs ys n (landing.Behind m) no h = absurd (no m refl)
+  among_more xs ys n (landing.Column c) never h = in_front_of xs ys n (Ok c.now.value) h
+  among_more xs ys n (landing.Expression v) never h = in_front_of xs ys n (read v.now (over columns)).value h
+  among_more xs ys n (landing.Behind m) never h = absurd (never m refl)
 
   -- what stands at a place of the rest stands at the place of the whole
   module _ {X : Type 0} (f : X → List (Outcome Typed)) where
@@ -91,7 +95,7 @@ module _ (columns : List Named) where
 
     pub landed : (rest : List X) (x : X) (more : List X) (left : ℕ) (found : Landing) (list : List X) (place : ℕ) → rest ≡ x ∷ more → ((m : ℕ) → found ≢ landing.Behind m) → IsAt columns (f x) left found →
         IsLeft rest left list place → IsAt columns (flat_map f list) place found
-    landed rest x more left found list place e no h whole = whole found (rw e (among_more (f x) (flat_map f more) left found no h))
+    landed rest x more left found list place e never h whole = whole found (rw e (among_more (f x) (flat_map f more) left found never h))
 
     pub fallen : (rest : List X) (left : ℕ) (list : List X) (place : ℕ) → rest ≡ [] → IsLeft rest left list place → IsAt columns (flat_map f list) place (landing.Behind left)
-    fallen rest left list place e whole = whole (landing.Behind left) (rw e refl)
+    fallen rest left list place e whole = whole (landing.Behind left) (rw e (omega arith))

@@ -1,10 +1,6 @@
 //! Forms of an expression, over what their parts came to: the first part that has no value decides.
 
 ghost use Rattle.std.specs.Prelude.{◌≡◌, Err, MatchResult};
-ghost use Rattle.aqe_expr.specs.Shapes as shapes;
-ghost use Rattle.aqe_expr.specs.declared.expr.Expr.{Expr, Literal, Coalesce};
-ghost use Rattle.aqe_rules.specs.Faults.{Says};
-ghost use Rattle.aqe_rules.specs.Outcomes.{Outcome, upon};
 ghost use Rattle.aqe_sources.specs.Given.{Gives};
 
 use aqe_expr::{BinaryOp, CasePairs, Expr, Operands, UnaryOp};
@@ -14,20 +10,19 @@ use std::alloc::Global;
 
 /// The literal of a copy of the value.
 pub(crate) fn literal(alloc: Global, value: &Value) -> Result<Expr, AnalysisFault>
-    ensures { Gives result (λ e. e ≡ Literal value.now) }
+    ensures { Gives result (λ e. e ≡ Expr.Literal value.now) }
 {
     let value = value.copy(alloc)?;
     Ok(Expr::Literal(value))
 }
 
 /// An operation on one value.
-#[tactic(auto, using(crate::proofs::PartSteps::shape_steps))]
 pub(crate) fn unary(
     alloc: Global,
     op: UnaryOp,
     arg: Result<Expr, AnalysisFault>,
 ) -> Result<Expr, AnalysisFault>
-    ensures { MatchResult arg (λ a. Gives result (λ e. e ≡ shapes.unary_of op a)) (λ f. result ≡ Err f) }
+    ensures { MatchResult arg (λ a. Gives result (λ e. e ≡ Expr.Unary op a)) (λ f. result ≡ Err f) }
 {
     let arg = arg?;
     let expr = Expr::unary(alloc, op, arg)?;
@@ -35,13 +30,12 @@ pub(crate) fn unary(
 }
 
 /// An operation on two values.
-#[tactic(auto, using(crate::proofs::PartSteps::shape_steps))]
 pub(crate) fn binary(
     alloc: Global,
     op: BinaryOp,
     parts: Result<(Expr, Expr), AnalysisFault>,
 ) -> Result<Expr, AnalysisFault>
-    ensures { MatchResult parts (λ p. Gives result (λ e. e ≡ shapes.binary_of op p.0 p.1)) (λ f. result ≡ Err f) }
+    ensures { MatchResult parts (λ p. Gives result (λ e. e ≡ Expr.Binary op p.0 p.1)) (λ f. result ≡ Err f) }
 {
     let (left, right) = parts?;
     let expr = Expr::binary(alloc, op, left, right)?;
@@ -49,12 +43,11 @@ pub(crate) fn binary(
 }
 
 /// `value BETWEEN low AND high`
-#[tactic(auto, using(crate::proofs::PartSteps::shape_steps))]
 pub(crate) fn between(
     alloc: Global,
     parts: Result<(Expr, (Expr, Expr)), AnalysisFault>,
 ) -> Result<Expr, AnalysisFault>
-    ensures { MatchResult parts (λ p. Gives result (λ e. e ≡ shapes.between_of p.0 p.1.0 p.1.1)) (λ f. result ≡ Err f) }
+    ensures { MatchResult parts (λ p. Gives result (λ e. e ≡ Expr.Between p.0 p.1.0 p.1.1)) (λ f. result ≡ Err f) }
 {
     let (value, (low, high)) = parts?;
     let expr = Expr::between(alloc, value, low, high)?;
@@ -62,12 +55,11 @@ pub(crate) fn between(
 }
 
 /// `value IN (list)`
-#[tactic(auto, using(crate::proofs::PartSteps::shape_steps))]
 pub(crate) fn one_of(
     alloc: Global,
     parts: Result<(Expr, Operands), AnalysisFault>,
 ) -> Result<Expr, AnalysisFault>
-    ensures { MatchResult parts (λ p. Gives result (λ e. e ≡ shapes.one_of p.0 p.1)) (λ f. result ≡ Err f) }
+    ensures { MatchResult parts (λ p. Gives result (λ e. e ≡ Expr.OneOf p.0 p.1)) (λ f. result ≡ Err f) }
 {
     let (value, list) = parts?;
     let expr = Expr::one_of(alloc, value, list)?;
@@ -75,12 +67,11 @@ pub(crate) fn one_of(
 }
 
 /// CASE without an operand.
-#[tactic(auto, using(crate::proofs::PartSteps::shape_steps))]
 pub(crate) fn case_of(
     alloc: Global,
     parts: Result<(CasePairs, Expr), AnalysisFault>,
 ) -> Result<Expr, AnalysisFault>
-    ensures { MatchResult parts (λ p. Gives result (λ e. e ≡ shapes.case_of p.0 p.1)) (λ f. result ≡ Err f) }
+    ensures { MatchResult parts (λ p. Gives result (λ e. e ≡ Expr.Case p.0 p.1)) (λ f. result ≡ Err f) }
 {
     let (pairs, otherwise) = parts?;
     let expr = Expr::case_of(alloc, pairs, otherwise)?;
@@ -88,12 +79,11 @@ pub(crate) fn case_of(
 }
 
 /// CASE with an operand.
-#[tactic(auto, using(crate::proofs::PartSteps::shape_steps))]
 pub(crate) fn switch(
     alloc: Global,
     parts: Result<(Expr, (CasePairs, Expr)), AnalysisFault>,
 ) -> Result<Expr, AnalysisFault>
-    ensures { MatchResult parts (λ p. Gives result (λ e. e ≡ shapes.switch_of p.0 p.1.0 p.1.1)) (λ f. result ≡ Err f) }
+    ensures { MatchResult parts (λ p. Gives result (λ e. e ≡ Expr.Switch p.0 p.1.0 p.1.1)) (λ f. result ≡ Err f) }
 {
     let (operand, (pairs, otherwise)) = parts?;
     let expr = Expr::switch(alloc, operand, pairs, otherwise)?;
@@ -102,7 +92,7 @@ pub(crate) fn switch(
 
 /// The first value that is not NULL.
 pub(crate) fn coalesce(list: Result<Operands, AnalysisFault>) -> Result<Expr, AnalysisFault>
-    ensures { MatchResult list (λ l. Gives result (λ e. e ≡ Coalesce l)) (λ f. result ≡ Err f) }
+    ensures { MatchResult list (λ l. Gives result (λ e. e ≡ Expr.Coalesce l)) (λ f. result ≡ Err f) }
 {
     let list = list?;
     Ok(Expr::Coalesce(list))

@@ -1,6 +1,9 @@
 //! Places in a select list whose stars are spread out.
 
-ghost use Rattle.std.specs.Prelude.{◌≡◌};
+ghost use Rattle.std.specs.Prelude.{◌≡◌, List, [], ◌∷◌};
+ghost use Rattle.aqe_rules.specs.Expressions.{read};
+ghost use Rattle.aqe_rules.specs.Sources.{over};
+ghost use Rattle.aqe_rules.specs.declared.names.Named.{Named};
 ghost use Rattle.aqe_grouping.specs.Places as spec;
 ghost use Rattle.aqe_grouping.specs.Places.{IsAt, shown_value, shown_values, item_values, list_values};
 

@@ -1,6 +1,6 @@
 //! The stars of a select list, each of which may be refused.
 
-ghost use Rattle.std.specs.Prelude.{◌≡◌, filter};
+ghost use Rattle.std.specs.Prelude.{◌≡◌, List, filter};
 ghost use Rattle.std.specs.List.{list_any};
 ghost use Rattle.aqe_rules.specs.Readings as readings;
 ghost use Rattle.aqe_rules.specs.Selects as spec;
