@@ -97,5 +97,6 @@ module _ (columns : List Named) where
         IsLeft rest left list place → IsAt columns (flat_map f list) place found
     landed rest x more left found list place e never h whole = whole found (rw e (among_more (f x) (flat_map f more) left found never h))
 
-    pub fallen : (rest : List X) (left : ℕ) (list : List X) (place : ℕ) → rest ≡ [] → IsLeft rest left list place → IsAt columns (flat_map f list) place (landing.Behind left)
-    fallen rest left list place e whole = whole (landing.Behind left) (rw e (omega arith))
+    pub fallen : (rest : List X) (left : ℕ) (list : List X) (place : ℕ) → length rest ≡ 0 → IsLeft rest left list place → IsAt columns (flat_map f list) place (landing.Behind left)
+    fallen [] left list place e whole = whole (landing.Behind left) (omega arith)
+    fallen (x ∷ rest) left list place e whole = absurd (let never : ⊥ = omega (arith, e) in never)

@@ -1,7 +1,8 @@
 -- The value at a position of a select list.
-use Rattle.std.proofs.Common.{◌≡◌, ℕ, zero, suc, ◌+◌, ◌<◌, arith, Bool, true, false, List, [], ◌∷◌, ◌++◌, map, flat_map, filter, length, cond, Option, Some, None, Result, Ok, Err, refl, ap, sym, subst, ◌∙◌}
+use Rattle.std.proofs.Common.{◌≡◌, ℕ, zero, suc, ◌+◌, ◌<◌, arith, get_or, take, Bool, true, false, List, [], ◌∷◌, ◌++◌, map, flat_map, filter, length, cond, Option, Some, None, Result, Ok, Err, refl, ap, sym, subst, ◌∙◌}
 use Rattle.std.specs.Prelude.{slice_get, option_map}
 use Rattle.std.specs.Option.{unwrap_or}
+use Rattle.std.proofs.lemmas.List.{take_more, map-append}
 use Rattle.std.proofs.lemmas.Option.{slice_get_past}
 use denote.Ref.{Bor}
 use Rattle.aqe_base.specs.declared.status.AnalysisKind.TheVariants.{BadPosition}
@@ -14,17 +15,19 @@ use Rattle.aqe_rules.specs.declared.typed.Typed.{Typed}
 use Rattle.aqe_rules.specs.Expressions.{read}
 use Rattle.aqe_rules.specs.Faults.{Says, Fails, Tells}
 use Rattle.aqe_rules.specs.Looks.{Alone, a_number, a_column, something}
-use Rattle.aqe_rules.specs.Outcomes.{Check, Outcome, refused, upon}
+use Rattle.aqe_rules.specs.Outcomes.{Check, Outcome, refused, upon, each}
 use Rattle.aqe_rules.specs.Readings.{Place, is_of}
 use Rattle.aqe_rules.specs.Selects.{Spread, column, expression, spread, spread_value, nth, at_position, written, grouping_key}
 use Rattle.aqe_rules.specs.Sources.{Item, over, columns_of}
 use Rattle.aqe_rules.proofs.Steps.{memory_fails}
 use Rattle.aqe_looks.specs.Numbers.{number_of}
 use Rattle.aqe_typing.proofs.StepLemmas.{upon_fails}
+use Rattle.aqe_typing.proofs.ListSteps.{each_behind}
 use Rattle.aqe_sources.specs.Seen.{SaysSeen}
 use Rattle.aqe_grouping.specs.declared.select_list.Landing.{Landing}
 use Rattle.aqe_grouping.specs.declared.select_list.Landing.TheVariants as landing
 use Rattle.aqe_grouping.specs.Places.{is_shown, shown_value, shown_values, item_values, list_values, IsAt, taken, from_0}
+use Rattle.aqe_grouping.specs.Several.{with_next}
 use Rattle.aqe_grouping.specs.Spreads.{spread_of, spreads_of}
 
 -- a position as a place
@@ -159,3 +162,12 @@ module _ (b : Bool) (items : List Item) (place : Place) (list : List ItemTree) (
     value_said is s = rw (unnumbered alone (sym h ∙ is)) s
 
 pub ruleset key_steps = (memory_fails, list_there, list_refused, number_said, value_said)
+
+-- one key more
+module _ (f : OrTree → Outcome Typed) where
+  pub keys_more : (group : List OrTree) (i : ℕ) (x : OrTree) (now : Result (List Typed) AnalysisFault) → i < length group → x ≡ get_or group i x →
+      Says now (with_next (each (map f (take i group))) (f x)) → Says now (each (map f (take (i + 1) group)))
+  keys_more group i x now below e h =
+      let next : take (i + 1) group ≡ take i group ++ x ∷ [] = take_more group i x below ∙ ap (λ (y : OrTree). take i group ++ y ∷ []) (sym e) in
+      let all : map f (take (i + 1) group) ≡ map f (take i group) ++ f x ∷ [] = ap (map f) next ∙ map-append f (take i group) (x ∷ []) in
+      subst (λ (os : List (Outcome Typed)). Says now (each os)) (sym all) (subst (λ (o : Outcome (List Typed)). Says now o) (sym (each_behind (map f (take i group)) (f x))) h)

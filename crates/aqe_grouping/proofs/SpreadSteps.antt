@@ -1,5 +1,5 @@
 -- The stars of a select list, one item after the other.
-use Rattle.std.proofs.Common.{◌≡◌, ℕ, Bool, true, false, ◌||◌, List, [], ◌∷◌, ◌++◌, map, flat_map, filter, Option, Result, Ok, Err, refl, ap, sym, subst, ◌∙◌}
+use Rattle.std.proofs.Common.{◌≡◌, arith, length, ℕ, Bool, true, false, ◌||◌, List, [], ◌∷◌, ◌++◌, map, flat_map, filter, Option, Result, Ok, Err, refl, ap, sym, subst, ◌∙◌}
 use Rattle.std.specs.Prelude.{codes}
 use Rattle.std.specs.List.{list_any}
 use Rattle.aqe_base.specs.declared.status.AnalysisKind.TheVariants.{NoSuchTable, NoSuchColumn}
@@ -92,5 +92,6 @@ module _ (b : Bool) (items : List Item) where
   item_refused rest item more list f e left h =
       whole list (Err f) (left (Err f) (rw e (upon_fails f (of_item item) (λ t. upon (each (map of_item more)) (λ ts. Ok (t ∷ ts))) h)))
 
-  pub all_passed : (list : List ItemTree) (u : Unit {0}) → IsLeft [] list → spread b items list ≡ Ok (spreads_of (columns_of items) list)
-  all_passed list u left = whole list (Ok u) (left (Ok u) refl)
+  pub all_passed : (rest list : List ItemTree) → length rest ≡ 0 → IsLeft rest list → spread b items list ≡ Ok (spreads_of (columns_of items) list)
+  all_passed [] list e left = whole list (Ok tt) (left (Ok tt) refl)
+  all_passed (item ∷ rest) list e left = absurd (let never : ⊥ = omega (arith, e) in never)
