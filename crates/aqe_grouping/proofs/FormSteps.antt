@@ -1,5 +1,5 @@
 -- Each form of an expression over the rows of groups, as the code makes it.
-use Rattle.std.proofs.Common.{◌≡◌, ◌≢◌, ℕ, zero, suc, ◌+◌, arith, Bool, true, false, cond, List, [], ◌∷◌, length, Option, Some, None, Result, Ok, Err, refl, ap, sym, subst, ◌∙◌}
+use Rattle.std.proofs.Common.{◌≡◌, ◌≢◌, ℕ, zero, suc, ◌+◌, arith, List, [], ◌∷◌, length, Option, Some, None, Result, Ok, Err, refl, ap, sym, subst, ◌∙◌}
 use Rattle.std.specs.Prelude.{MatchResult, slice_get}
 use Rattle.aqe_base.specs.declared.status.AnalysisKind.TheVariants.{NotGrouped}
 use Rattle.aqe_values.specs.declared.value.Value.{Value}
@@ -14,9 +14,8 @@ use Rattle.aqe_expr.proofs.Shapes.{is_unary, is_binary, is_between, is_one_of, i
 use Rattle.aqe_rules.specs.declared.fault.AnalysisFault.{AnalysisFault}
 use Rattle.aqe_rules.specs.declared.names.Named.{Named}
 use Rattle.aqe_rules.specs.declared.typed.Typed.{Typed}
-use Rattle.aqe_rules.specs.Faults.{Says, Fails, Tells}
+use Rattle.aqe_rules.specs.Faults.{Says, Fails}
 use Rattle.aqe_rules.specs.Grouping.{grouped, grouped_list, grouped_pairs, from_key, call_behind}
-use Rattle.aqe_rules.specs.Equality.{same_expr}
 use Rattle.aqe_rules.specs.Operations.{typed}
 use Rattle.aqe_rules.specs.Outcomes.{Outcome, refused, upon}
 use Rattle.aqe_rules.specs.Selects.{built_of_groups}
@@ -92,7 +91,7 @@ module _ (keys : List Expr) (names : List (List ℕ)) where
 
       pub unary_said : (op : UnaryOp) (a : Expr) (x : Result Expr AnalysisFault) → e ≡ Unary op a → Says x (grouped keys names a) →
           MatchResult x (λ b. Gives r (λ y. y ≡ Unary op b)) (λ f. r ≡ Err f) → Says r (grouped keys names e)
-      unary_said op a x is s m = formed (unary_of op a) (is ∙ is_unary op a) 
+      unary_said op a x is s m = formed (unary_of op a) (is ∙ is_unary op a)
           (subst (λ (o : Outcome Expr). Says r o) (λ i. upon (grouped keys names a) (λ b. Ok (is_unary op b i))) (on_one x r (grouped keys names a) (λ b. Unary op b) s m))
 
       pub binary_said : (op : BinaryOp) (a b : Expr) (x y : Result Expr AnalysisFault) (parts : Result (Expr × Expr) AnalysisFault) → e ≡ Binary op a b → Says x (grouped keys names a) →
@@ -146,7 +145,7 @@ module _ (keys : List Expr) (names : List (List ℕ)) where
           MatchResult x (λ b. Gives r (λ y. y ≡ Coalesce b)) (λ f. r ≡ Err f) → Says r (grouped keys names e)
       coalesce_said l x is s m = formed (Coalesce l) is (on_one x r (grouped_list keys names l) (λ b. Coalesce b) s m)
 
-pub ruleset form_steps = (key_said, column_said, literal_said, unary_said, binary_said, between_said, one_of_said, case_said, switch_said, coalesce_said)
+pub ruleset form_steps = (column_said, literal_said, coalesce_said)
 
 -- the whole expression, with its type
 module _ (keys : List Typed) (columns : List Named) (value : Typed) (a : Result Expr AnalysisFault) (h : Says a (grouped (exprs_of keys) (names_of columns) value.expr)) where
@@ -161,12 +160,3 @@ module _ (keys : List Typed) (columns : List Named) (value : Typed) (a : Result 
       (subst (λ (r : Result Expr AnalysisFault). Says r (grouped (exprs_of keys) (names_of columns) value.expr)) is h)
 
 pub ruleset built_steps = (memory_fails, built_there, built_fails)
-
--- the first key that an expression equals
-module _ (e : Expr) where
-  pub key_here : (keys : List Typed) (n : ℕ) (k : Typed) (rest : List Typed) (other : Outcome Expr) → keys ≡ k ∷ rest → same_expr k.expr e ≡ true → from_key (exprs_of keys) n e other ≡ Ok (Column n)
-  key_here keys n k rest other is same = rw (is, same) refl
-
-  pub key_past : (keys : List Typed) (n : ℕ) (k : Typed) (rest : List Typed) (other : Outcome Expr) → keys ≡ k ∷ rest → same_expr k.expr e ≡ false →
-      from_key (exprs_of keys) n e other ≡ from_key (exprs_of rest) (n + 1) e other
-  key_past keys n k rest other is same = rw (is, same) refl

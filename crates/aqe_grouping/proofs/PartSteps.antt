@@ -2,7 +2,7 @@
 use Rattle.std.proofs.Common.{◌≡◌, Result, Ok, Err, refl}
 use Rattle.std.specs.Prelude.{MatchResult}
 use Rattle.aqe_rules.specs.declared.fault.AnalysisFault.{AnalysisFault}
-use Rattle.aqe_rules.specs.Faults.{Says, Fails}
+use Rattle.aqe_rules.specs.Faults.{Says}
 use Rattle.aqe_rules.specs.Outcomes.{Outcome, upon}
 use Rattle.aqe_rules.proofs.Steps.{memory_fails}
 use Rattle.aqe_typing.proofs.StepLemmas.{upon_fails}

@@ -1,7 +1,6 @@
 -- Places among the values of a select list.
-use Rattle.std.proofs.Common.{◌≡◌, ◌≢◌, ℕ, zero, suc, ◌+◌, ◌<◌, arith, Bool, true, false, not, cond, List, [], ◌∷◌, ◌++◌, map, flat_map, filter, length, length-append, Option, Some, None, Ok, refl, ap, sym, subst, ◌∙◌}
+use Rattle.std.proofs.Common.{◌≡◌, ◌≢◌, ℕ, zero, suc, ◌+◌, ◌<◌, arith, true, false, List, [], ◌∷◌, ◌++◌, flat_map, length, length-append, Option, Some, Ok, refl, ap, ◌∙◌}
 use Rattle.std.specs.Prelude.{slice_get}
-use denote.Ref.{Bor}
 use Rattle.aqe_trees.specs.declared.expression.OrTree.{OrTree}
 use Rattle.aqe_trees.specs.declared.query.ItemTree.{ItemTree}
 use Rattle.aqe_trees.specs.declared.query.ItemTree.TheVariants as tree
@@ -53,7 +52,7 @@ module _ (columns : List Named) (item : ItemTree) (place : ℕ) (found : Landing
       IsAt columns (item_values columns item) place found
   expression_found value alias e h = rw e h
 
-pub ruleset item_steps = (all_found, all_of_found, expression_found)
+pub ruleset item_steps = (all_found, all_of_found)
 
 -- values behind others, and in front of others
 module _ (columns : List Named) where

@@ -1,6 +1,6 @@
 -- The value at a position of a select list.
-use Rattle.std.proofs.Common.{◌≡◌, ℕ, zero, suc, ◌+◌, ◌<◌, arith, get_or, take, Bool, true, false, List, [], ◌∷◌, ◌++◌, map, flat_map, filter, length, cond, Option, Some, None, Result, Ok, Err, refl, ap, sym, subst, ◌∙◌}
-use Rattle.std.specs.Prelude.{slice_get, option_map}
+use Rattle.std.proofs.Common.{◌≡◌, ℕ, zero, suc, ◌+◌, ◌<◌, arith, get_or, take, Bool, true, false, List, [], ◌∷◌, ◌++◌, map, filter, length, cond, Option, Some, None, Result, Ok, Err, refl, ap, sym, subst, ◌∙◌}
+use Rattle.std.specs.Prelude.{slice_get}
 use Rattle.std.specs.Option.{unwrap_or}
 use Rattle.std.proofs.lemmas.List.{take_more, map-append}
 use Rattle.std.proofs.lemmas.Option.{slice_get_past}
@@ -17,7 +17,7 @@ use Rattle.aqe_rules.specs.Faults.{Says, Fails, Tells}
 use Rattle.aqe_rules.specs.Looks.{Alone, a_number, a_column, something}
 use Rattle.aqe_rules.specs.Outcomes.{Check, Outcome, refused, upon, each}
 use Rattle.aqe_rules.specs.Readings.{Place, is_of}
-use Rattle.aqe_rules.specs.Selects.{Spread, column, expression, spread, spread_value, nth, at_position, written, grouping_key}
+use Rattle.aqe_rules.specs.Selects.{Spread, column, spread, spread_value, nth, at_position, written, grouping_key}
 use Rattle.aqe_rules.specs.Sources.{Item, over, columns_of}
 use Rattle.aqe_rules.proofs.Steps.{memory_fails}
 use Rattle.aqe_looks.specs.Numbers.{number_of}
@@ -26,7 +26,7 @@ use Rattle.aqe_typing.proofs.ListSteps.{each_behind}
 use Rattle.aqe_sources.specs.Seen.{SaysSeen}
 use Rattle.aqe_grouping.specs.declared.select_list.Landing.{Landing}
 use Rattle.aqe_grouping.specs.declared.select_list.Landing.TheVariants as landing
-use Rattle.aqe_grouping.specs.Places.{is_shown, shown_value, shown_values, item_values, list_values, IsAt, taken, from_0}
+use Rattle.aqe_grouping.specs.Places.{shown_values, item_values, list_values, IsAt, taken, from_0}
 use Rattle.aqe_grouping.specs.Several.{with_next}
 use Rattle.aqe_grouping.specs.Spreads.{spread_of, spreads_of}
 
@@ -123,8 +123,6 @@ module _ (columns : List Named) where
     pub no_position : (f : AnalysisFault) → o ≡ None → Tells f (refused BadPosition (written negative n)) → Fails f (upon (at_position negative n (spreads_of columns list)) (spread_value (over columns)))
     no_position f is t = rw (unplaced negative n (spreads_of columns list) (sym h ∙ is)) t
 
-pub ruleset position_steps = (position_said, no_position)
-
 -- a position in a list whose stars may be refused
 module _ (b : Bool) (items : List Item) (list : List ItemTree) (columns : List Named) (u : Result Unit AnalysisFault) (next : List Spread → Outcome Typed) (is : columns ≡ columns_of items)
     (h : SaysSeen (λ _. spreads_of (columns_of items) list) u (spread b items list)) where
@@ -161,7 +159,7 @@ module _ (b : Bool) (items : List Item) (place : Place) (list : List ItemTree) (
     pub value_said : o ≡ None → Says r (read value place).value → Says r (grouping_key b items place list value alone)
     value_said is s = rw (unnumbered alone (sym h ∙ is)) s
 
-pub ruleset key_steps = (memory_fails, list_there, list_refused, number_said, value_said)
+pub ruleset key_steps = (list_refused, number_said, value_said)
 
 -- one key more
 module _ (f : OrTree → Outcome Typed) where

@@ -1,5 +1,5 @@
 -- The stars of a select list, one item after the other.
-use Rattle.std.proofs.Common.{◌≡◌, arith, length, ℕ, Bool, true, false, ◌||◌, List, [], ◌∷◌, ◌++◌, map, flat_map, filter, Option, Result, Ok, Err, refl, ap, sym, subst, ◌∙◌}
+use Rattle.std.proofs.Common.{◌≡◌, arith, length, ℕ, Bool, true, false, ◌||◌, List, [], ◌∷◌, ◌++◌, map, flat_map, filter, Option, Result, Ok, Err, refl, ap, sym, ◌∙◌}
 use Rattle.std.specs.Prelude.{codes}
 use Rattle.std.specs.List.{list_any}
 use Rattle.aqe_base.specs.declared.status.AnalysisKind.TheVariants.{NoSuchTable, NoSuchColumn}
@@ -11,9 +11,8 @@ use Rattle.aqe_rules.specs.declared.names.Named.{Named}
 use Rattle.aqe_rules.specs.Faults.{Fails, Tells}
 use Rattle.aqe_rules.specs.Outcomes.{Outcome, refused, upon, each}
 use Rattle.aqe_rules.specs.Readings.{is_of}
-use Rattle.aqe_rules.specs.Selects.{Spread, column, expression, all_columns, is_named, columns_of_all, spread_item, spread}
+use Rattle.aqe_rules.specs.Selects.{Spread, column, all_columns, is_named, columns_of_all, spread_item, spread}
 use Rattle.aqe_rules.specs.Sources.{Item, columns_of}
-use Rattle.aqe_rules.proofs.Steps.{memory_fails}
 use Rattle.aqe_typing.proofs.StepLemmas.{upon_fails}
 use Rattle.aqe_sources.specs.declared.scope.FromItem.{FromItem}
 use Rattle.aqe_sources.specs.Seen.{item_seen, items_seen, SaysSeen}
@@ -74,12 +73,6 @@ module _ (b : Bool) (items : List Item) where
   abbrev pub IsLeft : List ItemTree → List ItemTree → Type 0
   IsLeft rest list = (r : Result Unit AnalysisFault) → EachSpread r rest → EachSpread r list
 
-  pub item_passed : (rest : List ItemTree) (item : ItemTree) (more list : List ItemTree) → rest ≡ item ∷ more → IsLeft rest list → of_item item ≡ Ok (spread_of (columns_of items) item) → IsLeft more list
-  item_passed rest item more list e left is (Ok u) h =
-      left (Ok u) (rw (e, is, h) refl)
-  item_passed rest item more list e left is (Err f) h =
-      left (Err f) (rw (e, is) (upon_fails f (each (map of_item more)) (λ ts. Ok (spread_of (columns_of items) item ∷ ts)) h))
-
   joined : (list : List ItemTree) → flat_map (λ s. s) (map (spread_of (columns_of items)) list) ≡ spreads_of (columns_of items) list
   joined [] = refl
   joined (item ∷ list) = ap (λ (more : List Spread). spread_of (columns_of items) item ++ more) (joined list)
@@ -87,10 +80,6 @@ module _ (b : Bool) (items : List Item) where
   whole : (list : List ItemTree) (r : Result Unit AnalysisFault) → EachSpread r list → SaysSeen (λ _. spreads_of (columns_of items) list) r (spread b items list)
   whole list (Ok u) h = rw h (ap (λ (all : List Spread). Ok all) (joined list))
   whole list (Err f) h = upon_fails f (each (map of_item list)) (λ all. Ok (flat_map (λ s. s) all)) h
-
-  pub item_refused : (rest : List ItemTree) (item : ItemTree) (more list : List ItemTree) (f : AnalysisFault) → rest ≡ item ∷ more → IsLeft rest list → Fails f (of_item item) → Fails f (spread b items list)
-  item_refused rest item more list f e left h =
-      whole list (Err f) (left (Err f) (rw e (upon_fails f (of_item item) (λ t. upon (each (map of_item more)) (λ ts. Ok (t ∷ ts))) h)))
 
   pub all_passed : (rest list : List ItemTree) → length rest ≡ 0 → IsLeft rest list → spread b items list ≡ Ok (spreads_of (columns_of items) list)
   all_passed [] list e left = whole list (Ok tt) (left (Ok tt) refl)

@@ -71,7 +71,6 @@ fn value_there(
 }
 
 /// The value at a position in the list, no star of which is refused.
-#[tactic(auto, using(crate::proofs::PositionPlaces::position_steps))]
 fn value_in_list(
     alloc: Global,
     columns: &[Named],

@@ -32,28 +32,24 @@ fn grouped(alloc: Global, groups: &Groups, expr: &Expr) -> Result<Expr, Analysis
         Expr::Unary { op, arg } => unary(alloc, *op, grouped(alloc, groups, arg.get())),
         Expr::Binary { op, left, right } => {
             let left = grouped(alloc, groups, left.get());
-            binary(
-                alloc,
-                *op,
-                both_of(left, grouped(alloc, groups, right.get())),
-            )
+            let right = grouped(alloc, groups, right.get());
+            binary(alloc, *op, both_of(left, right))
         }
         Expr::Between { value, low, high } => {
             let value = grouped(alloc, groups, value.get());
             let low = grouped(alloc, groups, low.get());
-            let ends = both_of(low, grouped(alloc, groups, high.get()));
-            between(alloc, both_of(value, ends))
+            let high = grouped(alloc, groups, high.get());
+            between(alloc, both_of(value, both_of(low, high)))
         }
         Expr::OneOf { value, list } => {
             let value = grouped(alloc, groups, value.get());
-            one_of(alloc, both_of(value, grouped_list(alloc, groups, list)))
+            let list = grouped_list(alloc, groups, list);
+            one_of(alloc, both_of(value, list))
         }
         Expr::Case { pairs, otherwise } => {
             let pairs = grouped_pairs(alloc, groups, pairs);
-            case_of(
-                alloc,
-                both_of(pairs, grouped(alloc, groups, otherwise.get())),
-            )
+            let otherwise = grouped(alloc, groups, otherwise.get());
+            case_of(alloc, both_of(pairs, otherwise))
         }
         Expr::Switch {
             operand,
@@ -62,8 +58,8 @@ fn grouped(alloc: Global, groups: &Groups, expr: &Expr) -> Result<Expr, Analysis
         } => {
             let operand = grouped(alloc, groups, operand.get());
             let pairs = grouped_pairs(alloc, groups, pairs);
-            let arms = both_of(pairs, grouped(alloc, groups, otherwise.get()));
-            switch(alloc, both_of(operand, arms))
+            let otherwise = grouped(alloc, groups, otherwise.get());
+            switch(alloc, both_of(operand, both_of(pairs, otherwise)))
         }
         Expr::Coalesce(list) => coalesce(grouped_list(alloc, groups, list)),
     }
@@ -101,7 +97,8 @@ fn grouped_pairs(
     } = rest
     {
         let test = grouped(alloc, groups, test.get());
-        made = with_one(made, both_of(test, grouped(alloc, groups, gives.get())));
+        let gives = grouped(alloc, groups, gives.get());
+        made = with_one(made, both_of(test, gives));
         rest = more.get();
     }
     case_pairs(alloc, made)

@@ -19,7 +19,7 @@ keys-preserved c =
 pub returns : goal.returns
 returns c =
     let f = λ (columns : List Named) (value : OrTree).
-        grouping_key c.args.has_from (items_seen c.args.items.now) (with_aliases columns c.args.list.now []) c.args.list.now value (alone_of value) in
+    grouping_key c.args.has_from (items_seen c.args.items.now) (with_aliases columns c.args.list.now []) c.args.list.now value (alone_of value) in
     let group = c.args.group.now in
     subst (λ (columns : List Named). Says c.keys.keys (each (map (f columns) group))) c.requires
     (subst (λ (l : List OrTree). Says c.keys.keys (each (map (f c.args.columns.now) l))) (take_all c.keys.value-index group (omega arith)) c.keys.invariant)

@@ -24,60 +24,62 @@ pub grouped-returns-in-Binary : goal.grouped-returns-in-Binary
 grouped-returns-in-Binary t c =
     let keys = exprs_of c.args.groups.now.keys.now in
     let names = names_of c.args.groups.now.columns.now in
-    binary_said keys names c.args.expr.now c.key_place.result c.key_place.ensures c.in_default.not-Some c.binary.result c.in-Binary.op c.in-Binary.left c.in-Binary.right c.grouped-left.result c.grouped-in-Binary.result c.both_of.result c.in-Binary.is
+    binary_said keys names c.args.expr.now c.key_place.result c.key_place.ensures c.in_default.not-Some c.binary.result c.in-Binary.op c.in-Binary.left c.in-Binary.right c.grouped-left.result c.grouped-right.result c.both_of.result c.in-Binary.is
     (subst (λ (e : Expr). Says c.grouped-left.result (grouped keys names e)) c.get-in-Binary.ensures c.grouped-left.ensures)
-    (subst (λ (e : Expr). Says c.grouped-in-Binary.result (grouped keys names e)) c.get-in-Binary-2.ensures c.grouped-in-Binary.ensures)
+    (subst (λ (e : Expr). Says c.grouped-right.result (grouped keys names e)) c.get-in-Binary-2.ensures c.grouped-right.ensures)
     c.both_of.ensures c.binary.ensures
 
 pub grouped-returns-in-Between : goal.grouped-returns-in-Between
 grouped-returns-in-Between t c =
     let keys = exprs_of c.args.groups.now.keys.now in
     let names = names_of c.args.groups.now.columns.now in
-    between_said keys names c.args.expr.now c.key_place.result c.key_place.ensures c.in_default.not-Some c.between.result c.in-Between.value c.in-Between.low c.in-Between.high c.grouped-value.result c.grouped-low.result c.grouped-in-Between.result
-    c.both_of-ends.result c.both_of-in-Between.result c.in-Between.is
+    between_said keys names c.args.expr.now c.key_place.result c.key_place.ensures c.in_default.not-Some c.between.result c.in-Between.value c.in-Between.low c.in-Between.high c.grouped-value.result c.grouped-low.result c.grouped-high.result
+    c.both_of-in-Between.result c.both_of-in-Between-2.result c.in-Between.is
     (subst (λ (e : Expr). Says c.grouped-value.result (grouped keys names e)) c.get-in-Between.ensures c.grouped-value.ensures)
     (subst (λ (e : Expr). Says c.grouped-low.result (grouped keys names e)) c.get-in-Between-2.ensures c.grouped-low.ensures)
-    (subst (λ (e : Expr). Says c.grouped-in-Between.result (grouped keys names e)) c.get-in-Between-3.ensures c.grouped-in-Between.ensures)
-    c.both_of-ends.ensures c.both_of-in-Between.ensures c.between.ensures
+    (subst (λ (e : Expr). Says c.grouped-high.result (grouped keys names e)) c.get-in-Between-3.ensures c.grouped-high.ensures)
+    c.both_of-in-Between.ensures c.both_of-in-Between-2.ensures c.between.ensures
 
 pub grouped-returns-in-OneOf : goal.grouped-returns-in-OneOf
 grouped-returns-in-OneOf t c =
     let keys = exprs_of c.args.groups.now.keys.now in
     let names = names_of c.args.groups.now.columns.now in
-    one_of_said keys names c.args.expr.now c.key_place.result c.key_place.ensures c.in_default.not-Some c.one_of.result c.in-OneOf.value c.in-OneOf.list c.grouped-value-in-OneOf.result c.grouped_list.result c.both_of-in-OneOf.result c.in-OneOf.is
+    one_of_said keys names c.args.expr.now c.key_place.result c.key_place.ensures c.in_default.not-Some c.one_of.result c.in-OneOf.value c.in-OneOf.list c.grouped-value-in-OneOf.result c.grouped_list-list.result c.both_of-in-OneOf.result c.in-OneOf.is
     (subst (λ (e : Expr). Says c.grouped-value-in-OneOf.result (grouped keys names e)) c.get-in-OneOf.ensures c.grouped-value-in-OneOf.ensures)
-    c.grouped_list.ensures c.both_of-in-OneOf.ensures c.one_of.ensures
+    c.grouped_list-list.ensures c.both_of-in-OneOf.ensures c.one_of.ensures
 
 pub grouped-returns-in-Case : goal.grouped-returns-in-Case
 grouped-returns-in-Case t c =
     let keys = exprs_of c.args.groups.now.keys.now in
     let names = names_of c.args.groups.now.columns.now in
-    case_said keys names c.args.expr.now c.key_place.result c.key_place.ensures c.in_default.not-Some c.case_of.result c.in-Case.pairs c.in-Case.otherwise c.grouped_pairs-pairs.result c.grouped-in-Case.result c.both_of-in-Case.result c.in-Case.is
-    c.grouped_pairs-pairs.ensures (subst (λ (e : Expr). Says c.grouped-in-Case.result (grouped keys names e)) c.get-in-Case.ensures c.grouped-in-Case.ensures)
+    case_said keys names c.args.expr.now c.key_place.result c.key_place.ensures c.in_default.not-Some c.case_of.result c.in-Case.pairs c.in-Case.otherwise c.grouped_pairs-pairs.result c.grouped-otherwise.result c.both_of-in-Case.result c.in-Case.is
+    c.grouped_pairs-pairs.ensures (subst (λ (e : Expr). Says c.grouped-otherwise.result (grouped keys names e)) c.get-in-Case.ensures c.grouped-otherwise.ensures)
     c.both_of-in-Case.ensures c.case_of.ensures
 
 pub grouped-returns-in-Switch : goal.grouped-returns-in-Switch
 grouped-returns-in-Switch t c =
     let keys = exprs_of c.args.groups.now.keys.now in
     let names = names_of c.args.groups.now.columns.now in
-    switch_said keys names c.args.expr.now c.key_place.result c.key_place.ensures c.in_default.not-Some c.switch.result c.in-Switch.operand c.in-Switch.pairs c.in-Switch.otherwise c.grouped-operand.result c.grouped_pairs-pairs-in-Switch.result c.grouped-in-Switch.result
-    c.both_of-arms.result c.both_of-in-Switch.result c.in-Switch.is
+    switch_said keys names c.args.expr.now c.key_place.result c.key_place.ensures c.in_default.not-Some c.switch.result c.in-Switch.operand c.in-Switch.pairs c.in-Switch.otherwise c.grouped-operand.result c.grouped_pairs-pairs-in-Switch.result c.grouped-otherwise-in-Switch.result
+    c.both_of-in-Switch.result c.both_of-in-Switch-2.result c.in-Switch.is
     (subst (λ (e : Expr). Says c.grouped-operand.result (grouped keys names e)) c.get-in-Switch.ensures c.grouped-operand.ensures)
     c.grouped_pairs-pairs-in-Switch.ensures
-    (subst (λ (e : Expr). Says c.grouped-in-Switch.result (grouped keys names e)) c.get-in-Switch-2.ensures c.grouped-in-Switch.ensures)
-    c.both_of-arms.ensures c.both_of-in-Switch.ensures c.switch.ensures
+    (subst (λ (e : Expr). Says c.grouped-otherwise-in-Switch.result (grouped keys names e)) c.get-in-Switch-2.ensures c.grouped-otherwise-in-Switch.ensures)
+    c.both_of-in-Switch.ensures c.both_of-in-Switch-2.ensures c.switch.ensures
 
 pub grouped_list-walk-preserved : goal.grouped_list-walk-preserved
 grouped_list-walk-preserved t c =
     let keys = exprs_of c.args.groups.now.keys.now in
-    let names = names_of c.args.groups.now.columns.now in
-    (search (rules, the_lemmas),
-     list_turned keys names c.walk.rest.now c.get.result.now c.get-rest.result.now c.walk.made c.with_one-made.result c.grouped.result (search rules) c.walk.invariant.1 c.with_one-made.ensures c.grouped.ensures)
+    let names = names_of c.args.groups.now.columns.now in (
+      search (rules, the_lemmas),
+      list_turned keys names c.walk.rest.now c.get.result.now c.get-rest.result.now c.walk.made c.with_one-made.result c.grouped.result (search rules) c.walk.invariant.1 c.with_one-made.ensures c.grouped.ensures,
+    )
 
 pub grouped_pairs-walk-preserved : goal.grouped_pairs-walk-preserved
 grouped_pairs-walk-preserved t c =
     let keys = exprs_of c.args.groups.now.keys.now in
-    let names = names_of c.args.groups.now.columns.now in
-    (search (rules, the_lemmas),
-     pairs_turned keys names c.walk.rest.now c.get.result.now c.get-in-More.result.now c.get-rest.result.now c.walk.made c.with_one-made.result c.grouped-test.result c.grouped.result c.both_of.result (search rules) c.walk.invariant.1
-     c.with_one-made.ensures c.both_of.ensures c.grouped-test.ensures c.grouped.ensures)
+    let names = names_of c.args.groups.now.columns.now in (
+      search (rules, the_lemmas),
+      pairs_turned keys names c.walk.rest.now c.get.result.now c.get-in-More.result.now c.get-rest.result.now c.walk.made c.with_one-made.result c.grouped-test.result c.grouped-gives.result c.both_of.result (search rules) c.walk.invariant.1
+          c.with_one-made.ensures c.both_of.ensures c.grouped-test.ensures c.grouped-gives.ensures,
+    )
