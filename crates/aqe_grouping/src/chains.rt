@@ -1,6 +1,6 @@
 //! Lists of what several parts came to, and the chains of an expression.
 
-ghost use Rattle.std.specs.Prelude.{◌≡◌, [], ◌∷◌, ◌++◌, List, Ok, Err, MatchResult};
+ghost use Rattle.std.specs.Prelude.{◌≡◌, [], ◌∷◌, ◌++◌, List, Err, MatchResult};
 ghost use Rattle.aqe_expr.specs.Chains.{in_front, pairs_in_front};
 ghost use Rattle.aqe_rules.specs.Faults.{Says};
 ghost use Rattle.aqe_rules.specs.Outcomes.{Outcome};

@@ -1,6 +1,5 @@
 //! Expressions over the rows of groups: keys take the place of what they equal.
 
-ghost use Rattle.std.specs.Prelude.{◌≡◌};
 ghost use Rattle.aqe_rules.specs.Faults.{Says};
 ghost use Rattle.aqe_rules.specs.Grouping as spec;
 ghost use Rattle.aqe_rules.specs.Selects.{built_of_groups};
