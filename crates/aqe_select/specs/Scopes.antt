@@ -17,8 +17,8 @@ calls_over true columns c sorts = calls_of (over columns) (with_aliases columns 
 calls_over false columns c sorts = []
 
 -- what these items of FROM show to the clauses
-pub record Shows (c : Clauses) (grouped : Bool) (items : List FromItem) (s : Shown) : Type 0 where
+pub record Shows (c : Clauses) (grouped : Bool) (all : List FromItem) (s : Shown) : Type 0 where
   pub has_from : s.has_from ≡ c.has_from
-  pub items : s.items ≡ items
-  pub columns : s.columns ≡ columns_of (items_seen items)
+  pub items : s.items ≡ all
+  pub columns : s.columns ≡ columns_of (items_seen all)
   pub calls : calls_seen s.calls ≡ calls_over grouped s.columns c c.sorts.now

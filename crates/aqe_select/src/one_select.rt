@@ -48,8 +48,8 @@ fn over_shown(
     shown: Shown,
     plan: Logical,
 ) -> Result<Logical, AnalysisFault>
-    requires { is_grouped ≡ spec.is_grouped clauses.now }
-    requires { Shows clauses.now is_grouped shown.items shown }
+    requires as_grouped { is_grouped ≡ spec.is_grouped clauses.now }
+    requires shows { Shows clauses.now is_grouped shown.items shown }
     ensures { Says result (select_of clauses.now (from_of plan (items_seen shown.items))) }
 {
     match parts(alloc, clauses, is_grouped, &shown, plan) {

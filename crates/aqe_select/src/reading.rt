@@ -2,7 +2,7 @@
 //!
 //! The plan is handed on beside what comes of the clauses behind WHERE, so that it is alive at no check.
 
-ghost use Rattle.std.specs.Prelude.{◌≡◌};
+ghost use Rattle.std.specs.Prelude.{◌≡◌, IfOk};
 ghost use Rattle.aqe_rules.specs.Sources.{columns_of};
 ghost use Rattle.aqe_sources.specs.Seen.{items_seen, SaysSeen};
 ghost use Rattle.aqe_select.specs.Clauses.{selected_over, parts_of};
@@ -75,7 +75,7 @@ fn with_keys(
 
 /// GROUP BY, the select list and HAVING.
 #[tactic(auto, using(crate::proofs::ReadingSteps::keys_steps))]
-fn read(
+fn behind_where(
     alloc: Global,
     clauses: &Clauses,
     is_grouped: bool,
@@ -123,10 +123,11 @@ pub(crate) fn parts(
     plan: Logical,
 ) -> Result<Selected, AnalysisFault>
     requires { shown.now.columns ≡ columns_of (items_seen shown.now.items) }
-    ensures { SaysSeen (selected_over shown.now.columns) result (parts_of clauses.now is_grouped shown.now plan) }
+    ensures says { SaysSeen (selected_over shown.now.columns) result (parts_of clauses.now is_grouped shown.now plan) }
+    ensures as_grouped { IfOk result (λ s. s.is_grouped ≡ is_grouped) }
 {
     let columns = shown.columns.slice();
     let below = kept(alloc, clauses.filter, columns, clauses.list, plan);
-    let read = read(alloc, clauses, is_grouped, shown);
+    let read = behind_where(alloc, clauses, is_grouped, shown);
     selected(clauses.distinct, is_grouped, both_of(below, read))
 }
