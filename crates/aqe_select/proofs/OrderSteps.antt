@@ -65,6 +65,18 @@ order_says s t sorts outputs n r e f h =
     (subst (λ (cs : List Named). SaysSeen order_seen r
     (order_of (λ value. cond t.distinct (no_hidden cs value) (upon (read value (place_of s)).value (built t.is_grouped t.keys s.columns))) n cs sorts)) e h)
 
+-- the same, from what the calls say of slices
+pub slices_order : (s : Shown) (t : Selected) (sorts : List SortTree) (keys : List Typed) (columns outputs : List Named) (n : ℕ) (r : Result Order AnalysisFault) → keys ≡ t.keys → columns ≡ s.columns →
+    outputs ≡ shown_columns (outputs_seen t.outputs) → n ≡ length t.outputs →
+    SaysSeen order_seen r (order_of (λ value. cond t.distinct (no_hidden outputs value) (upon (read value (place_of s)).value (built t.is_grouped keys columns))) n outputs sorts) →
+    SaysSeen order_seen r (order_over s t sorts)
+slices_order s t sorts keys columns outputs n r d g e f h =
+    order_says s t sorts outputs n r e f
+    (subst (λ (ks : List Typed). SaysSeen order_seen r
+    (order_of (λ value. cond t.distinct (no_hidden outputs value) (upon (read value (place_of s)).value (built t.is_grouped ks s.columns))) n outputs sorts)) d
+    (subst (λ (cs : List Named). SaysSeen order_seen r
+    (order_of (λ value. cond t.distinct (no_hidden outputs value) (upon (read value (place_of s)).value (built t.is_grouped keys cs))) n outputs sorts)) g h))
+
 -- the limits let a plan pass as it is
 limits-pass : (a b : Bool) (p x : Logical) → provided a too_many_operators (provided b too_many_columns (Ok p)) ≡ Ok x → provided a too_many_operators (provided b too_many_columns (Ok p)) ≡ Ok p
 limits-pass true true p x e = refl

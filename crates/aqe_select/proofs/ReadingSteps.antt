@@ -15,6 +15,7 @@ use Rattle.aqe_rules.specs.Readings.{Place}
 use Rattle.aqe_rules.specs.Selects.{Output, at, built, with_aliases, outputs, grouping_keys, having_condition}
 use Rattle.aqe_rules.specs.Sources.{columns_of, condition, kept}
 use Rattle.aqe_rules.proofs.Steps.{memory_fails}
+use Rattle.aqe_typing.specs.declared.calls.Call.{Call}
 use Rattle.aqe_typing.specs.Calls.{calls_seen}
 use Rattle.aqe_typing.proofs.StepLemmas.{upon_fails, first_fails, one_there}
 use Rattle.aqe_sources.specs.Pairs.{both_of}
@@ -44,7 +45,9 @@ module _ (built : Typed → Outcome Typed) (place : Place) (having : Option OrTr
   having_fails tree a f is h e = rw is (first_fails (λ (t : Typed). Ok (Some t)) a (having_condition built place tree) f e h)
 
   pub having_there : (tree : OrTree) (a : Result Typed AnalysisFault) (t : Typed) → having ≡ Some tree → Says a (having_condition built place tree) → a ≡ Ok t → having_of built place having ≡ Ok (Some t)
-  having_there tree a t is h e = rw (is, subst (λ (r : Result Typed AnalysisFault). Says r (having_condition built place tree)) e h) refl
+  having_there tree a t is h e =
+      let there : having_condition built place tree ≡ Ok t = subst (λ (r : Result Typed AnalysisFault). Says r (having_condition built place tree)) e h in
+      rw (is, there) refl
 
   pub no_having : having ≡ None → having_of built place having ≡ Ok None
   no_having is = rw is refl
@@ -61,6 +64,22 @@ over_keys_say c g s keys (Ok os) (Err f) h k =
 over_keys_say c g s keys (Err f) b h k =
     upon_fails f (outputs_of (built g keys s.columns) s c.list.now) (λ outputs.
     upon (having_of (built g keys s.columns) (with_aliases s.columns c.list.now (calls_seen s.calls)) c.having.now) (λ having. Ok (keys, (outputs, having)))) h
+
+-- the same, from what the calls say of slices
+pub slices_say : (c : Clauses) (g : Bool) (s : Shown) (keys ks : List Typed) (cs ds : List Named) (calls : List Call) (a : Result (List OutputColumn) AnalysisFault) (b : Result (Option Typed) AnalysisFault) →
+    ks ≡ keys → cs ≡ s.columns → ds ≡ s.columns → calls ≡ s.calls → SaysSeen outputs_seen a (outputs_of (built g ks cs) s c.list.now) →
+    Says b (having_of (built g ks cs) (with_aliases ds c.list.now (calls_seen calls)) c.having.now) → SaysSeen read_seen (with_keys keys (both_of a b)) (over_keys c g s keys)
+slices_say c g s keys ks cs ds calls a b d e f i h k =
+    let shown_so : SaysSeen outputs_seen a (outputs_of (built g keys s.columns) s c.list.now) =
+    subst (λ (xs : List Typed). SaysSeen outputs_seen a (outputs_of (built g xs s.columns) s c.list.now)) d
+    (subst (λ (xs : List Named). SaysSeen outputs_seen a (outputs_of (built g ks xs) s c.list.now)) e h) in
+    let over_keys_so : Says b (having_of (built g keys s.columns) (with_aliases ds c.list.now (calls_seen calls)) c.having.now) =
+    subst (λ (xs : List Typed). Says b (having_of (built g xs s.columns) (with_aliases ds c.list.now (calls_seen calls)) c.having.now)) d
+    (subst (λ (xs : List Named). Says b (having_of (built g ks xs) (with_aliases ds c.list.now (calls_seen calls)) c.having.now)) e k) in
+    let having_so : Says b (having_of (built g keys s.columns) (with_aliases s.columns c.list.now (calls_seen s.calls)) c.having.now) =
+    subst (λ (xs : List Named). Says b (having_of (built g keys s.columns) (with_aliases xs c.list.now (calls_seen s.calls)) c.having.now)) f
+    (subst (λ (xs : List Call). Says b (having_of (built g keys s.columns) (with_aliases ds c.list.now (calls_seen xs)) c.having.now)) i over_keys_so) in
+    over_keys_say c g s keys a b shown_so having_so
 
 -- the keys of GROUP BY, and what is over them
 module _ (c : Clauses) (g : Bool) (s : Shown) (e : s.columns ≡ columns_of (items_seen s.items)) (a : Result (List Typed) AnalysisFault)
@@ -80,19 +99,19 @@ module _ (c : Clauses) (g : Bool) (s : Shown) (e : s.columns ≡ columns_of (ite
 pub ruleset keys_steps = (keys_fail, keys_there)
 
 -- three steps, and what is made of their values at once or later
-module _ {A B C P T : Type 0} where
-  then-one : (o : Outcome C) (p : C → P) (q : P → T) → upon o (λ z. Ok (q (p z))) ≡ upon (upon o (λ z. Ok (p z))) (λ x. Ok (q x))
-  then-one (Ok z) p q = refl
-  then-one (Err check) p q = refl
+then-one : {C P T : Type 0} (o : Outcome C) (p : C → P) (q : P → T) → upon o (λ z. Ok (q (p z))) ≡ upon (upon o (λ z. Ok (p z))) (λ x. Ok (q x))
+then-one (Ok z) p q = refl
+then-one (Err check) p q = refl
 
-  then-two : (o : Outcome B) (h : Outcome C) (p : B → C → P) (q : P → T) → upon o (λ y. upon h (λ z. Ok (q (p y z)))) ≡ upon (upon o (λ y. upon h (λ z. Ok (p y z)))) (λ x. Ok (q x))
-  then-two (Ok y) h p q = then-one h (p y) q
-  then-two (Err check) h p q = refl
+then-two : {B C P T : Type 0} (o : Outcome B) (h : Outcome C) (p : B → C → P) (q : P → T) →
+    upon o (λ y. upon h (λ z. Ok (q (p y z)))) ≡ upon (upon o (λ y. upon h (λ z. Ok (p y z)))) (λ x. Ok (q x))
+then-two (Ok y) h p q = then-one h (p y) q
+then-two (Err check) h p q = refl
 
-  then-three : (k : Outcome A) (o : A → Outcome B) (h : A → Outcome C) (p : A → B → C → P) (q : P → T) →
-      upon k (λ x. upon (o x) (λ y. upon (h x) (λ z. Ok (q (p x y z))))) ≡ upon (upon k (λ x. upon (o x) (λ y. upon (h x) (λ z. Ok (p x y z))))) (λ x. Ok (q x))
-  then-three (Ok x) o h p q = then-two (o x) (h x) (p x) q
-  then-three (Err check) o h p q = refl
+then-three : {A B C P T : Type 0} (k : Outcome A) (o : A → Outcome B) (h : A → Outcome C) (p : A → B → C → P) (q : P → T) →
+    upon k (λ x. upon (o x) (λ y. upon (h x) (λ z. Ok (q (p x y z))))) ≡ upon (upon k (λ x. upon (o x) (λ y. upon (h x) (λ z. Ok (p x y z))))) (λ x. Ok (q x))
+then-three (Ok x) o h p q = then-two (o x) (h x) (p x) q
+then-three (Err check) o h p q = refl
 
 -- all of them
 module _ (c : Clauses) (g : Bool) (s : Shown) (plan : Logical) where
@@ -120,8 +139,11 @@ module _ (c : Clauses) (g : Bool) (s : Shown) (plan : Logical) where
       then-three (grouping_keys s.has_from (items_seen s.items) (with_aliases s.columns c.list.now []) c.list.now c.group.now) (λ keys. outputs_of (built g keys s.columns) s c.list.now)
       (λ keys. having_of (built g keys s.columns) (with_aliases s.columns c.list.now (calls_seen s.calls)) c.having.now) (λ keys os having. (keys, (os, having))) (selected_at below)
 
+  then-is : walk_over s.columns ≡ in_steps
+  then-is = λ i. upon (kept c.filter.now (with_aliases s.columns c.list.now []) plan) (λ below. behind-where below i)
+
   steps-are : s.columns ≡ columns_of (items_seen s.items) → parts_of c g s plan ≡ in_steps
-  steps-are e = ap walk_over (sym e) ∙ (λ i. upon (kept c.filter.now (with_aliases s.columns c.list.now []) plan) (λ below. behind-where below i))
+  steps-are e = ap walk_over (sym e) ∙ then-is
 
   both-say : (a : Result Logical AnalysisFault) (b : Result Read AnalysisFault) → Says a (kept c.filter.now (with_aliases s.columns c.list.now []) plan) → SaysSeen read_seen b (read_of c g s) →
       SaysSeen (selected_over s.columns) (selected_of c.distinct g (both_of a b)) in_steps

@@ -68,6 +68,7 @@ impl<'a> Hiding for HiddenOf<'a> {
 
     ghost rule = { hidden_by };
 
+    #[tactic(auto, using(crate::proofs::OrderSteps::hidden_steps))]
     fn hidden(&self, alloc: Global, value: &OrTree) -> Result<Typed, AnalysisFault> {
         if self.distinct {
             let outputs = self.outputs;
