@@ -1,5 +1,5 @@
 -- The ORDER BY of a SELECT, one step at a time.
-use Rattle.std.proofs.Common.{◌≡◌, ℕ, suc, Bool, true, false, List, [], ◌∷◌, map, length, Result, Ok, Err, refl, ap, sym, subst, ◌∙◌}
+use Rattle.std.proofs.Common.{◌≡◌, ℕ, Bool, true, false, List, [], ◌∷◌, length, Result, Ok, Err, refl, ap, sym, subst, ◌∙◌}
 use Rattle.std.specs.Prelude.{MatchResult, nat_le, cond}
 use Rattle.aqe_logical.specs.declared.plan.Logical.{Logical}
 use Rattle.aqe_logical.specs.WellFormed.{column_limit}
@@ -15,11 +15,10 @@ use Rattle.aqe_rules.specs.Outcomes.{Outcome, upon, provided, too_many_operators
 use Rattle.aqe_rules.specs.Plans.{no_hidden, shown_columns}
 use Rattle.aqe_rules.specs.Readings.{Place, Call}
 use Rattle.aqe_rules.specs.Selects.{built, is_empty}
-use Rattle.aqe_rules.proofs.Steps.{memory_fails}
 use Rattle.aqe_typing.specs.Calls.{calls_seen}
 use Rattle.aqe_typing.proofs.StepLemmas.{upon_fails, first_fails, one_there}
 use Rattle.aqe_ordered.specs.declared.order.Order.{Order}
-use Rattle.aqe_ordered.specs.Orders.{Keys, order_of, order_seen}
+use Rattle.aqe_ordered.specs.Orders.{order_of, order_seen}
 use Rattle.aqe_sources.specs.Given.{Gives}
 use Rattle.aqe_sources.specs.Pairs.{both_of}
 use Rattle.aqe_sources.specs.Seen.{SaysSeen}

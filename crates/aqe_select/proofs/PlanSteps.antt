@@ -1,15 +1,15 @@
 -- The plan of a SELECT, one part at a time.
-use Rattle.std.proofs.Common.{◌≡◌, Bool, true, List, ◌++◌, map, Option, Some, refl}
+use Rattle.std.proofs.Common.{◌≡◌, true, List, ◌++◌, map, Option, Some, refl}
 use Rattle.aqe_values.specs.declared.schema.Field.{Field}
-use Rattle.aqe_expr.specs.declared.expr.Expr.{Expr, Column}
+use Rattle.aqe_expr.specs.declared.expr.Expr.{Expr}
 use Rattle.aqe_logical.specs.declared.plan.AggCall.{AggCall}
 use Rattle.aqe_logical.specs.declared.plan.Logical.{Logical}
 use Rattle.aqe_logical.specs.declared.plan.Logical.TheVariants.{Filter, Project, Aggregate}
 use Rattle.aqe_logical.proofs.Shapes.{is_filtered, is_projected, is_aggregated}
 use Rattle.aqe_rules.specs.declared.typed.Typed.{Typed}
 use Rattle.aqe_rules.specs.Readings.{Call}
-use Rattle.aqe_rules.specs.Selects.{Output, field}
-use Rattle.aqe_rules.specs.Plans.{aggregate_fields, groups_of, filtered_by, fields_of, projected_to, columns_up_to, distinct_rows, distinct_if}
+use Rattle.aqe_rules.specs.Selects.{Output}
+use Rattle.aqe_rules.specs.Plans.{aggregate_fields, groups_of, filtered_by, fields_of, projected_to, distinct_if}
 use Rattle.aqe_outputs.specs.Items.{exprs_of}
 use Rattle.aqe_outputs.specs.Shown.{outputs_seen}
 use Rattle.aqe_select.specs.declared.plans.Selected.{Selected}

@@ -10,9 +10,9 @@ use Rattle.aqe_rules.specs.declared.typed.Typed.{Typed}
 use Rattle.aqe_rules.specs.Analysis as analysis
 use Rattle.aqe_rules.specs.Faults.{Says, Fails}
 use Rattle.aqe_rules.specs.Operations.{typed}
-use Rattle.aqe_rules.specs.Outcomes.{Check, Outcome, upon}
+use Rattle.aqe_rules.specs.Outcomes.{Outcome, upon}
 use Rattle.aqe_rules.specs.Readings.{Place}
-use Rattle.aqe_rules.specs.Selects.{Output, at, built, with_aliases, outputs, grouping_keys, having_condition}
+use Rattle.aqe_rules.specs.Selects.{at, built, with_aliases, outputs, grouping_keys, having_condition}
 use Rattle.aqe_rules.specs.Sources.{columns_of, condition, kept}
 use Rattle.aqe_rules.proofs.Steps.{memory_fails}
 use Rattle.aqe_typing.specs.declared.calls.Call.{Call}
@@ -24,7 +24,6 @@ use Rattle.aqe_outputs.specs.declared.outputs.OutputColumn.{OutputColumn}
 use Rattle.aqe_outputs.specs.declared.outputs.Shown.{Shown}
 use Rattle.aqe_outputs.specs.Shown.{outputs_seen, outputs_of}
 use Rattle.aqe_select.specs.declared.clauses.Clauses.{Clauses}
-use Rattle.aqe_select.specs.declared.plans.Selected.{Selected}
 use Rattle.aqe_select.specs.declared.reading.Read.{Read}
 use Rattle.aqe_select.specs.Clauses.{selected_over, parts_of}
 use Rattle.aqe_select.specs.Reading.{Parts, having_of, read_seen, over_keys, read_of, with_keys, selected_of}

@@ -1,5 +1,5 @@
 -- The plan of a SELECT from its clauses to its ORDER BY.
-use Rattle.std.proofs.Common.{◌≡◌, Bool, true, false, List, [], length, refl, ap, sym, subst, ◌∙◌, Ok}
+use Rattle.std.proofs.Common.{◌≡◌, Bool, true, false, List, [], refl, ap, sym, subst, ◌∙◌, Ok}
 use Rattle.aqe_logical.specs.declared.plan.Logical.{Logical}
 use Rattle.aqe_trees.specs.declared.query.SortTree.{SortTree}
 use Rattle.aqe_rules.specs.declared.fault.AnalysisFault.{AnalysisFault}
@@ -19,7 +19,7 @@ use Rattle.aqe_outputs.specs.declared.outputs.Shown.{Shown}
 use Rattle.aqe_select.specs.declared.clauses.Clauses.{Clauses}
 use Rattle.aqe_select.specs.declared.plans.Selected.{Selected}
 use Rattle.aqe_select.specs.Clauses.{selected_over, plan_from, is_grouped, parts_of, select_of}
-use Rattle.aqe_select.specs.Orders.{order_over, with_order, planned}
+use Rattle.aqe_select.specs.Orders.{planned}
 use Rattle.aqe_select.specs.Scopes.{calls_over, Shows}
 
 -- the calls, over the columns of the items

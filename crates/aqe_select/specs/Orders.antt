@@ -1,5 +1,5 @@
 -- The ORDER BY of a SELECT, in the steps that the code takes.
-use Rattle.std.specs.Prelude.{Bool, cond, not, List, [], map, length, Ok}
+use Rattle.std.specs.Prelude.{cond, not, List, [], map, length, Ok}
 use Rattle.aqe_logical.specs.declared.plan.Logical.{Logical}
 use Rattle.aqe_trees.specs.declared.expression.OrTree.{OrTree}
 use Rattle.aqe_trees.specs.declared.query.SortTree.{SortTree}
