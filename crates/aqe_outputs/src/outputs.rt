@@ -63,11 +63,7 @@ fn is_any_named(name: &Text, items: &[FromItem]) -> bool
 
 /// The column of FROM as an output column.
 #[tactic(auto, using(crate::proofs::OutputSteps::column_steps))]
-fn column(
-    alloc: Global,
-    building: &Building,
-    column: &Named,
-) -> Result<OutputColumn, AnalysisFault>
+fn column(alloc: Global, building: &Building, column: &Named) -> Result<OutputColumn, AnalysisFault>
     ensures { SaysSeen output_seen result (spec.column_output (built_by building.now) column.now) }
 {
     let name = Text::copy_of(alloc, column.name.as_str())?;

@@ -80,10 +80,7 @@ impl<'a> Hiding for HiddenOf<'a> {
 }
 
 /// The output columns as ORDER BY sees them.
-fn columns_shown(
-    alloc: Global,
-    outputs: &[OutputColumn],
-) -> Result<Listing<Named>, AnalysisFault>
+fn columns_shown(alloc: Global, outputs: &[OutputColumn]) -> Result<Listing<Named>, AnalysisFault>
     ensures { Gives result (λ columns. columns ≡ plans.shown_columns (outputs_seen outputs.now)) }
 {
     let fields = fields_of(alloc, outputs)?;
@@ -115,7 +112,9 @@ fn order(
     order_of(alloc, &hiding, selected.outputs.len(), outputs, sorts)
 }
 
-/// That the plan without the ORDER BY keeps both limits of plans; it has not the calls of ORDER BY alone.
+/// That the plan without its ORDER BY keeps both limits of plans, or the limit that it breaks.
+///
+/// It has no call that stands in ORDER BY alone, and no hidden column.
 fn within(
     alloc: Global,
     clauses: &Clauses,

@@ -148,7 +148,10 @@ fn expressions(alloc: Global, outputs: Outputs) -> Result<Exprs, Memory>
 }
 
 /// The fields of output columns.
-pub(crate) fn fields_of(alloc: Global, outputs: &[OutputColumn]) -> Result<Schema, aqe_values::Memory>
+pub(crate) fn fields_of(
+    alloc: Global,
+    outputs: &[OutputColumn],
+) -> Result<Schema, aqe_values::Memory>
     ensures { IfOk result (λ fields. fields ≡ spec.fields_of (outputs_seen outputs.now)) }
 {
     let mut fields = Schema::new(alloc);
