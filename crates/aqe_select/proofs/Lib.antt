@@ -1,4 +1,4 @@
-pub mod NameSteps
-pub mod OutputSteps
 pub mod PlanSteps
+pub mod ReadingSteps
+pub mod OrderSteps
 pub mod SelectSteps

@@ -1,3 +1,4 @@
-pub mod Shown
-pub mod Items
 pub mod Clauses
+pub mod Scopes
+pub mod Reading
+pub mod Orders

@@ -3,9 +3,7 @@
 ghost use Rattle.std.specs.Prelude.{◌≡◌};
 ghost use Rattle.std.specs.List.{list_any};
 ghost use Rattle.aqe_rules.specs.Selects as spec;
-ghost use Rattle.aqe_select.specs.Clauses as clauses_of;
 
-use crate::clauses::Clauses;
 use aqe_looks::has_aggregate;
 use aqe_script::parts::sort_parts;
 use aqe_trees::{ItemTree, OrTree, SortTree};
@@ -29,7 +27,7 @@ fn sort_has_aggregate(sort: &SortTree) -> bool
 }
 
 /// Whether there are none.
-fn is_empty<T>(items: &[T]) -> bool
+pub(crate) fn is_empty<T>(items: &[T]) -> bool
     ensures { result ≡ spec.is_empty items.now }
 {
     items.split_first().is_none()
@@ -50,7 +48,7 @@ fn order_has_aggregate(sorts: &[SortTree]) -> bool
 }
 
 /// Whether a query is grouped: it has GROUP BY, HAVING, or an aggregate call in its select list or ORDER BY.
-fn is_grouped(
+pub(crate) fn is_grouped(
     list: &[ItemTree],
     group: &[OrTree],
     having: &Option<OrTree>,
@@ -68,12 +66,4 @@ fn is_grouped(
         return true;
     }
     order_has_aggregate(sorts)
-}
-
-/// Whether a SELECT is not grouped and has no order.
-pub(crate) fn is_plain(clauses: &Clauses) -> bool
-    ensures { result ≡ clauses_of.is_plain clauses.now }
-{
-    let is_grouped = is_grouped(clauses.list, clauses.group, clauses.having, clauses.sorts);
-    !is_grouped && is_empty(clauses.sorts)
 }

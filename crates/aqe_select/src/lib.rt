@@ -1,13 +1,15 @@
 //! One SELECT: the plan of its clauses over the plan of its FROM, or the first check that fails.
 #![tactic(auto)]
 
-mod building;
 mod clauses;
+mod copies;
 mod grouped;
+mod having;
 mod one_select;
-mod output_names;
-mod outputs;
+mod orders;
 mod plans;
+mod reading;
+mod scope;
 
 pub use clauses::Clauses;
 pub use one_select::select;

@@ -1,89 +1,72 @@
 //! A SELECT over its FROM, clause by clause.
 
-ghost use Rattle.std.specs.Prelude.{◌≡◌, []};
+ghost use Rattle.std.specs.Prelude.{◌≡◌};
 ghost use Rattle.aqe_rules.specs.Faults.{Says};
 ghost use Rattle.aqe_rules.specs.Outcomes.{Outcome, upon};
-ghost use Rattle.aqe_rules.specs.Sources.{From};
-ghost use Rattle.aqe_select.specs.Clauses.{IsPlain, selected_seen, ungrouped_of, parts_of, select_of};
-ghost use Rattle.aqe_sources.specs.Seen.{from_seen, SaysSeen};
+ghost use Rattle.aqe_rules.specs.Sources.{From, from_of};
+ghost use Rattle.aqe_typing.specs.Calls.{calls_seen};
+ghost use Rattle.aqe_sources.specs.Seen.{from_seen, items_seen, SaysSeen};
+ghost use Rattle.aqe_select.specs.Clauses as spec;
+ghost use Rattle.aqe_select.specs.Clauses.{select_of};
+ghost use Rattle.aqe_select.specs.Orders.{planned};
+ghost use Rattle.aqe_select.specs.Scopes.{calls_over, Shows};
 
-use crate::building::AsItIs;
 use crate::clauses::Clauses;
-use crate::grouped::is_plain;
-use crate::outputs::{Outputs, Shown, output_columns};
-use crate::plans::{Selected, plan_of};
-use aqe_base::Listing;
+use crate::grouped::{is_empty, is_grouped};
+use crate::orders::{ordered, unordered};
+use crate::plans::Selected;
+use crate::reading::parts;
+use crate::scope::shown_to;
 use aqe_logical::Logical;
-use aqe_rules::{AnalysisFault, Named, Typed};
-use aqe_sources::{FromPlan, both_of, columns_of, kept, within_limits};
+use aqe_outputs::Shown;
+use aqe_rules::AnalysisFault;
+use aqe_sources::FromPlan;
 use std::alloc::Global;
 
-/// A SELECT that is not grouped, of the rows that WHERE keeps and the output columns, where both are there.
-fn ungrouped(
-    distinct: bool,
-    columns: Listing<Named>,
-    keys: Listing<Typed>,
-    both: Result<(Logical, Outputs), AnalysisFault>,
-) -> Result<Selected, AnalysisFault>
-    ensures { result ≡ ungrouped_of distinct columns keys both }
+/// The plan of a SELECT, once its clauses are read.
+fn planned(
+    alloc: Global,
+    clauses: &Clauses,
+    shown: Shown,
+    selected: Selected,
+) -> Result<Logical, AnalysisFault>
+    requires { calls_seen shown.calls ≡ calls_over selected.is_grouped shown.columns clauses.now clauses.now.sorts.now }
+    ensures { Says result (planned clauses.now shown selected) }
 {
-    match both {
-        Ok((below, outputs)) => Ok(Selected {
-            below,
-            columns,
-            is_grouped: false,
-            keys,
-            outputs,
-            having: None,
-            distinct,
-        }),
+    if is_empty(clauses.sorts) {
+        unordered(alloc, shown, selected)
+    } else {
+        ordered(alloc, clauses, shown, selected)
+    }
+}
+
+/// The plan of a SELECT over the plan of FROM and what it shows.
+fn over_shown(
+    alloc: Global,
+    clauses: &Clauses,
+    is_grouped: bool,
+    shown: Shown,
+    plan: Logical,
+) -> Result<Logical, AnalysisFault>
+    requires as_grouped { is_grouped ≡ spec.is_grouped clauses.now }
+    requires shows { Shows clauses.now is_grouped shown.items shown }
+    ensures { Says result (select_of clauses.now (from_of plan (items_seen shown.items))) }
+{
+    match parts(alloc, clauses, is_grouped, &shown, plan) {
+        Ok(selected) => planned(alloc, clauses, shown, selected),
         Err(fault) => Err(fault),
     }
 }
 
-/// What the clauses come to.
-fn parts(alloc: Global, clauses: &Clauses, from: FromPlan) -> Result<Selected, AnalysisFault>
-    requires { IsPlain clauses.now }
-    ensures { SaysSeen selected_seen result (parts_of clauses.now (from_seen from)) }
-{
-    let FromPlan { plan, items } = from;
-    let columns = columns_of(alloc, items.slice())?;
-    let below = kept(alloc, clauses.filter, columns.slice(), clauses.list, plan);
-    let shown = Shown {
-        has_from: clauses.has_from,
-        items,
-        columns,
-        calls: Listing::new(alloc),
-    };
-    let outputs = output_columns(alloc, &shown, &AsItIs, clauses.list);
-    let Shown { columns, .. } = shown;
-    ungrouped(
-        clauses.distinct,
-        columns,
-        Listing::new(alloc),
-        both_of(below, outputs),
-    )
-}
-
-/// The plan of a SELECT over its FROM that is not grouped and has no order.
-fn plain(alloc: Global, clauses: &Clauses, from: FromPlan) -> Result<Logical, AnalysisFault>
-    requires { IsPlain clauses.now }
-    ensures { Says result (select_of clauses.now (from_seen from)) }
-{
-    let selected = parts(alloc, clauses, from)?;
-    let plan = plan_of(alloc, selected, Listing::new(alloc))?;
-    within_limits(plan)
-}
-
 /// The plan of a SELECT over its FROM.
-#[tactic(auto, using(crate::proofs::SelectSteps::plain_clauses))]
 fn select_over(alloc: Global, clauses: &Clauses, from: FromPlan) -> Result<Logical, AnalysisFault>
     ensures { Says result (select_of clauses.now (from_seen from)) }
 {
-    if is_plain(clauses) {
-        plain(alloc, clauses, from)
-    } else {
-        Err(AnalysisFault::Memory)
+    let FromPlan { plan, items } = from;
+    let is_grouped = is_grouped(clauses.list, clauses.group, clauses.having, clauses.sorts);
+    match shown_to(alloc, clauses, is_grouped, items) {
+        Ok(shown) => over_shown(alloc, clauses, is_grouped, shown, plan),
+        Err(fault) => Err(fault),
     }
 }
 

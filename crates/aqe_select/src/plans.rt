@@ -2,20 +2,21 @@
 //!
 //! What is made in several steps is handed on as results, so that no plan is alive where a step may find no memory.
 
-ghost use Rattle.std.specs.Prelude.{◌≡◌, ◌++◌, [], map, true, Ok, ◌∷◌, IfOk};
-ghost use Rattle.aqe_rules.specs.Analysis as analysis;
+ghost use Rattle.std.specs.Prelude.{◌≡◌, ◌++◌, [], map, true, ◌∷◌, IfOk};
 ghost use Rattle.aqe_rules.specs.Plans as spec;
+ghost use Rattle.aqe_rules.specs.Plans.{hidden_output};
 ghost use Rattle.aqe_rules.specs.Selects.{field};
 ghost use Rattle.aqe_typing.specs.Calls.{calls_seen};
-ghost use Rattle.aqe_select.specs.Clauses.{selected_seen};
-ghost use Rattle.aqe_select.specs.Items as items;
-ghost use Rattle.aqe_select.specs.Shown.{outputs_seen};
+ghost use Rattle.aqe_select.specs.Clauses.{plan_from};
+ghost use Rattle.aqe_outputs.specs.Items as items;
+ghost use Rattle.aqe_outputs.specs.Shown.{outputs_seen};
 
-use crate::outputs::{OutputColumn, Outputs};
+use crate::copies::or_memory;
 use aqe_base::{Listing, Memory};
 use aqe_boxes::both;
 use aqe_logical::{AggCalls, Exprs, Logical};
-use aqe_rules::{Named, Typed};
+use aqe_outputs::{OutputColumn, Outputs};
+use aqe_rules::Typed;
 use aqe_typing::Call;
 use aqe_unions::distinct_rows;
 use aqe_values::{Field, Schema, SqlType, Text};
@@ -26,8 +27,6 @@ use std::alloc::Global;
 pub(crate) struct Selected {
     /// The rows that WHERE keeps.
     pub below: Logical,
-    /// The columns of FROM.
-    pub columns: Listing<Named>,
     pub is_grouped: bool,
     /// The keys of the groups.
     pub keys: Listing<Typed>,
@@ -88,16 +87,6 @@ fn untyped_calls(alloc: Global, calls: Listing<Call>) -> Result<AggCalls, Memory
     Ok(made)
 }
 
-/// The columns, where memory did not run out.
-fn schema_or_memory(fields: Result<Schema, aqe_values::Memory>) -> Result<Schema, Memory>
-    ensures { IfOk result (λ schema. fields ≡ Ok schema) }
-{
-    match fields {
-        Ok(fields) => Ok(fields),
-        Err(_) => Err(Memory),
-    }
-}
-
 /// The groups of the rows of a plan, by these keys and with the values of these calls.
 #[tactic(auto, using(crate::proofs::PlanSteps::groups_made))]
 fn grouped(
@@ -109,7 +98,7 @@ fn grouped(
     ensures { IfOk result (λ p. p ≡ spec.groups_of true keys (calls_seen calls) below) }
 {
     let fields = fields_of_groups(alloc, keys.slice(), calls.slice());
-    let schema = schema_or_memory(fields);
+    let schema = or_memory(fields);
     let keys = key_expressions(alloc, keys);
     let calls = untyped_calls(alloc, calls);
     let ((keys, calls), (schema, below)) = both(both(keys, calls), both(schema, Ok(below)))?;
@@ -159,7 +148,10 @@ fn expressions(alloc: Global, outputs: Outputs) -> Result<Exprs, Memory>
 }
 
 /// The fields of output columns.
-fn fields_of(alloc: Global, outputs: &[OutputColumn]) -> Result<Schema, aqe_values::Memory>
+pub(crate) fn fields_of(
+    alloc: Global,
+    outputs: &[OutputColumn],
+) -> Result<Schema, aqe_values::Memory>
     ensures { IfOk result (λ fields. fields ≡ spec.fields_of (outputs_seen outputs.now)) }
 {
     let mut fields = Schema::new(alloc);
@@ -177,44 +169,85 @@ fn projected_to(alloc: Global, outputs: Outputs, below: Logical) -> Result<Logic
     ensures { IfOk result (λ p. p ≡ spec.projected_to (outputs_seen outputs) below) }
 {
     let fields = fields_of(alloc, outputs.slice());
-    let schema = schema_or_memory(fields);
+    let schema = or_memory(fields);
     let items = expressions(alloc, outputs);
     let (items, (schema, below)) = both(items, both(schema, Ok(below)))?;
     let plan = Logical::project(alloc, items, schema, below)?;
     Ok(plan)
 }
 
+/// The output columns with columns behind them that are there for the order alone, which have no names.
+fn with_hidden_columns(
+    alloc: Global,
+    outputs: Outputs,
+    hidden: Listing<Typed>,
+) -> Result<Outputs, Memory>
+    ensures { IfOk result (λ all. outputs_seen all ≡ outputs_seen outputs ++ map hidden_output hidden) }
+{
+    let mut all = outputs;
+    'hidden: for value in hidden.into_vec() {
+        let (name, value) = both(or_memory(Text::copy_of(alloc, "")), Ok(value))?;
+        all.push(OutputColumn { name, value })?;
+    }
+    Ok(all)
+}
+
+/// The plan with the output columns, and these behind them.
+fn projected_with(
+    alloc: Global,
+    outputs: Outputs,
+    hidden: Listing<Typed>,
+    below: Logical,
+) -> Result<Logical, Memory>
+    ensures { IfOk result (λ p. p ≡ spec.projected_to (outputs_seen outputs ++ map hidden_output hidden) below) }
+{
+    let (outputs, below) = both(with_hidden_columns(alloc, outputs, hidden), Ok(below))?;
+    projected_to(alloc, outputs, below)
+}
+
 /// The same, equal rows once.
-fn distinct_outputs(alloc: Global, outputs: Outputs, below: Logical) -> Result<Logical, Memory>
+fn distinct_outputs(
+    alloc: Global,
+    outputs: Outputs,
+    hidden: Listing<Typed>,
+    below: Logical,
+) -> Result<Logical, Memory>
     ensures { IfOk result (λ p. p ≡ spec.distinct_rows (spec.fields_of (outputs_seen outputs))
-        (spec.projected_to (outputs_seen outputs) below)) }
+        (spec.projected_to (outputs_seen outputs ++ map hidden_output hidden) below)) }
 {
     let fields = fields_of(alloc, outputs.slice());
-    let schema = schema_or_memory(fields);
-    let (schema, plan) = both(schema, projected_to(alloc, outputs, below))?;
+    let schema = or_memory(fields);
+    let (schema, plan) = both(schema, projected_with(alloc, outputs, hidden, below))?;
     distinct_rows(alloc, schema, plan)
 }
 
-/// The plan with the output columns alone, equal rows once where that is wanted.
-fn shown(alloc: Global, distinct: bool, outputs: Outputs, below: Logical) -> Result<Logical, Memory>
+/// The plan with the output columns and these behind them, equal rows once where that is wanted.
+fn shown(
+    alloc: Global,
+    distinct: bool,
+    outputs: Outputs,
+    hidden: Listing<Typed>,
+    below: Logical,
+) -> Result<Logical, Memory>
     ensures { IfOk result (λ p. p ≡ spec.distinct_if distinct (spec.fields_of (outputs_seen outputs))
-        (spec.projected_to (outputs_seen outputs) below)) }
+        (spec.projected_to (outputs_seen outputs ++ map hidden_output hidden) below)) }
 {
     if distinct {
-        distinct_outputs(alloc, outputs, below)
+        distinct_outputs(alloc, outputs, hidden, below)
     } else {
-        projected_to(alloc, outputs, below)
+        projected_with(alloc, outputs, hidden, below)
     }
 }
 
-/// The plan of a SELECT with the values of these calls, before its ORDER BY.
+/// The plan of a SELECT with the values of these calls, before its ORDER BY, with hidden columns behind its own.
 #[tactic(auto, using(crate::proofs::PlanSteps::plan_made))]
 pub(crate) fn plan_of(
     alloc: Global,
     selected: Selected,
     calls: Listing<Call>,
+    hidden: Listing<Typed>,
 ) -> Result<Logical, Memory>
-    ensures { IfOk result (λ p. p ≡ analysis.plan_of (selected_seen selected) (calls_seen calls) []) }
+    ensures { IfOk result (λ p. p ≡ plan_from selected (calls_seen calls) (map hidden_output hidden)) }
 {
     let Selected {
         below,
@@ -223,11 +256,10 @@ pub(crate) fn plan_of(
         outputs,
         having,
         distinct,
-        ..
     } = selected;
     let groups = groups_of(alloc, is_grouped, keys, calls, below);
-    let (groups, (having, outputs)) = both(groups, Ok((having, outputs)))?;
+    let (groups, (having, shown_columns)) = both(groups, Ok((having, (outputs, hidden))))?;
     let kept = filtered_by(alloc, having, groups);
-    let (kept, outputs) = both(kept, Ok(outputs))?;
-    shown(alloc, distinct, outputs, kept)
+    let (kept, (outputs, hidden)) = both(kept, Ok(shown_columns))?;
+    shown(alloc, distinct, outputs, hidden, kept)
 }

@@ -1,6 +1,6 @@
 use Rattle.std.proofs.Common.{◌≡◌}
-use Rattle.aqe_select.specs.Items.{exprs_of}
-use Rattle.aqe_select.specs.Shown.{outputs_seen}
+use Rattle.aqe_outputs.specs.Items.{exprs_of}
+use Rattle.aqe_outputs.specs.Shown.{outputs_seen}
 use Rattle.aqe_select.proofs.plans.expressions.Given as goal
 
 abbrev pub invariant-outputs : goal.invariant-outputs

@@ -1,6 +1,6 @@
 use Rattle.std.proofs.Common.{◌≡◌, take}
 use Rattle.aqe_rules.specs.Plans.{fields_of}
-use Rattle.aqe_select.specs.Shown.{outputs_seen}
+use Rattle.aqe_outputs.specs.Shown.{outputs_seen}
 use Rattle.aqe_select.proofs.plans.fields_of.Given as goal
 
 abbrev pub invariant-outputs : goal.invariant-outputs

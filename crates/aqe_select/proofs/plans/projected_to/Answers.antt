@@ -1,5 +1,5 @@
 use Rattle.std.proofs.Common.{rules}
-use Rattle.aqe_select.specs.Shown.{outputs_seen}
+use Rattle.aqe_outputs.specs.Shown.{outputs_seen}
 use Rattle.aqe_select.proofs.PlanSteps.{projection_made}
 use Rattle.aqe_select.proofs.plans.projected_to.Goals as goal
 

@@ -1,0 +1,9 @@
+use Rattle.std.proofs.Common.{take}
+use Rattle.aqe_outputs.specs.Building.{built_by}
+use Rattle.aqe_outputs.specs.Items.{behind, columns_shown}
+use Rattle.aqe_sources.specs.Seen.{SaysSeen}
+use Rattle.aqe_outputs.specs.Shown.{outputs_seen}
+use Rattle.aqe_outputs.proofs.outputs.with_columns.Given as goal
+
+abbrev pub invariant-columns : goal.invariant-columns
+invariant-columns l = SaysSeen outputs_seen l.outputs (behind (outputs_seen l.fn.so_far) (columns_shown (built_by l.building) (take l.next-index l.columns)))
