@@ -28,6 +28,8 @@ mod rows;
 #[cfg(test)]
 mod runs;
 #[cfg(test)]
+mod selects;
+#[cfg(test)]
 mod sizes;
 #[cfg(test)]
 mod sources;
