@@ -81,7 +81,7 @@ answers_more asked first stages stage unread all one s = elim (cases_lt s (lengt
 carried_more : (stages : Stages) (stage : Stage) → All IsCarriedOut stages → IsCarriedOut stage → All IsCarriedOut (stages ++ stage ∷ [])
 carried_more stages stage all one = All-append IsCarriedOut stages (stage ∷ []) all (All-cons IsCarriedOut stage [] one (All-nil IsCarriedOut))
 
-reads_many : (stages : Stages) (stage : Stage) → length (birth_over stages stage).reads ≡ part_count stage.body
+pub reads_many : (stages : Stages) (stage : Stage) → length (birth_over stages stage).reads ≡ part_count stage.body
 reads_many stages stage = length-map-range_with_len (λ k. map (need_over stages) (task_needs stage.kind stage.body k)) 0 (part_count stage.body)
 
 -- the history behind a stage more

@@ -6,3 +6,4 @@ pub mod Served
 pub mod Consequences
 pub mod ResultCells
 pub mod RestRuns
+pub mod Progress

@@ -73,7 +73,7 @@ calm_settled asked first now c = elim (cases_Bool (is_ready (is_materialised now
       (all_made asked first (is_materialised now) (makings (is_materialised now) now.plan) now c (not_materialised now c.steady.born) refl)
 ]
 
-calm_begun : (asked : Asked) (first : Plan) → IsSound asked → IsFirst asked first → Calm asked first (first_state asked.query first)
+pub calm_begun : (asked : Asked) (first : Plan) → IsSound asked → IsFirst asked first → Calm asked first (first_state asked.query first)
 calm_begun asked first sound fits =
     let s = start asked first sound fits in
     record {

@@ -19,13 +19,13 @@ use Rattle.aqe_journal.specs.States.{State}
 use Rattle.aqe_calm.specs.Calm.{Calm, parts_over, IsAnswerAt}
 
 -- the stages before one with a number, and those behind it
-record Around (stages : Stages) (s : ℕ) (stage : Stage) : Type 0 where
-  before : Stages
-  behind : Stages
-  is : stages ≡ before ++ stage ∷ behind
-  many : length before ≡ s
+pub record Around (stages : Stages) (s : ℕ) (stage : Stage) : Type 0 where
+  pub before : Stages
+  pub behind : Stages
+  pub is : stages ≡ before ++ stage ∷ behind
+  pub many : length before ≡ s
 
-around : (stages : Stages) (s : ℕ) (stage : Stage) → slice_get stages s ≡ Some stage → Around stages s stage
+pub around : (stages : Stages) (s : ℕ) (stage : Stage) → slice_get stages s ≡ Some stage → Around stages s stage
 around [] s stage e = absurd (none e)
   where
     none : None ≡ Some stage → ⊥

@@ -40,7 +40,7 @@ use Rattle.aqe_endings.proofs.Histories.{done_counted}
 use Rattle.aqe_endings.proofs.Endings.{MayEnd, both_left, both_right}
 
 -- the birth of a stage that is there
-births_at : (before stages : Stages) (s : ℕ) (stage : Stage) → slice_get stages s ≡ Some stage → slice_get (births_over before stages) s ≡ Some (birth_over (before ++ take s stages) stage)
+pub births_at : (before stages : Stages) (s : ℕ) (stage : Stage) → slice_get stages s ≡ Some stage → slice_get (births_over before stages) s ≡ Some (birth_over (before ++ take s stages) stage)
 births_at before [] s stage e = absurd (none e)
   where
     none : None ≡ Some stage → ⊥
@@ -112,7 +112,7 @@ module _ (tables : Tables) (stages prefix : Stages) (outputs : AllKept) (h : Lis
   task_met (kind.Sample keys) body k b c all = absurd (clash b)
   task_met kind.Result body k b c all = body_met body k c all
 
-get_mapped : {X : Type 0} (f : ℕ → X) (a n t : ℕ) → t < n → slice_get (map f (range_with_len a n)) t ≡ Some (f (a + t))
+pub get_mapped : {X : Type 0} (f : ℕ → X) (a n t : ℕ) → t < n → slice_get (map f (range_with_len a n)) t ≡ Some (f (a + t))
 get_mapped f a zero t lt = absurd (omega (arith, lt))
 get_mapped f a (suc n) zero lt = let same : a ≡ a + 0 = omega arith in ap (λ k. Some (f k)) same
 get_mapped f a (suc n) (suc t) lt = let same : a + 1 + t ≡ a + suc t = omega arith in get_mapped f (a + 1) n t (omega (arith, lt)) ∙ ap (λ k. Some (f k)) same

@@ -1,5 +1,5 @@
 -- The laws of runs in which nothing but the rest ends tasks: no events are taken from a file, and the rest is run.
-use Rattle.std.specs.Prelude.{ℕ, ◌≡◌, true, cond, Some, None, slice_get}
+use Rattle.std.specs.Prelude.{ℕ, ◌≡◌, true, false, cond, Some, None, slice_get}
 use Rattle.aqe_settings.specs.Ranges.{InRange}
 use Rattle.aqe_blocks.specs.Kept.{AllKept}
 use Rattle.aqe_physical.specs.declared.plan.Plan.{Plan}
@@ -43,6 +43,10 @@ NextTasksAreServed = (asked : Asked) (now : State) (place : ℕ × ℕ) (stage :
     rest_of (history now) ≡ Some place → slice_get now.stages place.0 ≡ Some stage →
     ((s m : ℕ) → counted (history now) s m ≡ true → IsKept asked.tables now.stages outputs s m) →
     IsServedTask asked.tables now.stages outputs stage.kind stage.body place.1
+
+-- Before the query is done some task may end next.
+abbrev pub TasksAreLeft : Type 0
+TasksAreLeft = (asked : Asked) (now : State) → Reaches asked now → is_done now ≡ false → rest_of (history now) ≡ None → ⊥
 
 -- The rows of the query are those that a result stage holds, map by map.
 abbrev pub ResultsHoldTheRows : Type 0
