@@ -1,0 +1,16 @@
+pub mod Notes
+pub mod Recorded
+pub mod Ready
+pub mod Made
+pub mod Cells
+pub mod Ended
+pub mod Turned
+pub mod Begun
+pub mod Going
+pub mod Finished
+pub mod Sound
+pub mod Marking
+pub mod Keeping
+pub mod Making
+pub mod Rows
+pub mod Settling
