@@ -607,9 +607,12 @@ module _ (asked : Asked) (now : State) (r : Reaches asked now) (undone : is_done
     | inl has ↦
         let made = result_made_at now.stages has in
         let lt = get_below now.stages made.0 made.1 made.2 in
-        let no = none_any_at (λ s. is_result_in (slice_get now.stages s) && w s) 0 (length now.stages) made.0 undone (omega arith) (omega (arith, lt)) in
-        (made.0, lt, left_by made.0 (marks_result w now.plan 0 now.stages made.0 made.1 made.2 made.3)
-        (sym (ap (λ b. b && w made.0) (ap is_result_in made.2 ∙ made.3)) ∙ no))
+        let no = none_any_at (λ s. is_result_in (slice_get now.stages s) && w s) 0 (length now.stages) made.0 undone (omega arith) (omega (arith, lt)) in (
+          made.0,
+          lt,
+          left_by made.0 (marks_result w now.plan 0 now.stages made.0 made.1 made.2 made.3)
+              (sym (ap (λ b. b && w made.0) (ap is_result_in made.2 ∙ made.3)) ∙ no),
+        )
     | inr has_none ↦
         let none : makings w now.plan ++ cond (is_ready w now.plan && true) (result_of now.plan ∷ []) [] ≡ [] = (λ i. all_makings w (sym has_none i) now.plan) ∙ stand.none in
         let unready = cond_none (is_ready w now.plan) (empty_right (makings w now.plan) (cond (is_ready w now.plan && true) (result_of now.plan ∷ []) []) none) in
@@ -643,10 +646,10 @@ module _ (asked : Asked) (now : State) (r : Reaches asked now) (undone : is_done
       λ p other e. ap tasks_in (ap (λ bs. slice_get bs p) calm.events.births ∙ births_at [] now.stages p other e) ∙ reads_many (take p now.stages) other in
       let whole_reads : (p : ℕ) → plan_reads stage.body p ≡ true → w p ≡ true =
       λ p reads_it.
-        let less = reads_below s (nodes stage.body) answer.0 p reads_it in
-        let marked_p = marks_later w now.plan 0 now.stages p s stage less st.1 is_marked (ap w (none_more s) ∙ open_here)
-        (ap (stage_reads stage) (none_more p) ∙ or_true (kind_reads p stage.kind) (plan_reads stage.body p) reads_it) in
-        not_true (w p) (sym (ap (λ b. b && not (w p)) marked_p) ∙ lowest.others p less) in
+      let less = reads_below s (nodes stage.body) answer.0 p reads_it in
+      let marked_p = marks_later w now.plan 0 now.stages p s stage less st.1 is_marked (ap w (none_more s) ∙ open_here)
+      (ap (stage_reads stage) (none_more p) ∙ or_true (kind_reads p stage.kind) (plan_reads stage.body p) reads_it) in
+      not_true (w p) (sym (ap (λ b. b && not (w p)) marked_p) ∙ lowest.others p less) in
       let birth : slice_get (births h) s ≡ Some (birth_over (take s now.stages) stage) = ap (λ bs. slice_get bs s) calm.events.births ∙ births_at [] now.stages s stage st.1 in
       let many = counts s stage st.1 in
       let undone_task = not_all (done h s) 0 (task_count (births h) s) (sym (ap (λ o. is_some o && list_all (done h s) (range_with_len 0 (task_count (births h) s))) birth) ∙ open_here) in
