@@ -14,3 +14,4 @@ pub mod Keeping
 pub mod Making
 pub mod Rows
 pub mod Settling
+pub mod Looping

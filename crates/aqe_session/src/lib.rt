@@ -12,7 +12,7 @@ mod settle;
 
 pub use beginning::begin;
 pub use ending::{end, note_whole};
-pub use query::{QueryEnd, Rest, is_done};
+pub use query::{QueryEnd, Rest, is_done, run_to_end};
 pub use record::record_of;
 pub use run::Run;
 pub use settle::turn;
