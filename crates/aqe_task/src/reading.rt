@@ -4,7 +4,7 @@ ghost use Rattle.std.specs.Prelude.{◌≡◌, ◌≤◌, ◌<◌, ◌++◌, ℕ
 ghost use Rattle.aqe_blocks.specs.Kept.{output_at};
 ghost use Rattle.aqe_operators.specs.Lent.{lent_rows};
 ghost use Rattle.aqe_stages.specs.Parts.{file_rows};
-ghost use Rattle.aqe_lists.specs.LoadedTables.{tables_of};
+ghost use Rattle.aqe_estimates.specs.LoadedTables.{tables_of};
 ghost use Rattle.aqe_task.specs.Pieces.{rows_in, AreKept, kept_cell, kept_column, kept_rows};
 
 use crate::part_rows::PartRows;

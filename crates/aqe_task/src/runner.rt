@@ -4,7 +4,7 @@ ghost use Rattle.std.specs.Prelude.{◌≡◌, ◌∷◌, ◌++◌, [], List, If
 ghost use Rattle.aqe_base.specs.declared.stage_id.StageId.{StageId as StageNumber};
 ghost use Rattle.aqe_base.specs.declared.ids.TaskId.{TaskId as TaskNumber};
 ghost use Rattle.aqe_stages.specs.Stages.{Stages};
-ghost use Rattle.aqe_lists.specs.LoadedTables.{tables_of};
+ghost use Rattle.aqe_estimates.specs.LoadedTables.{tables_of};
 ghost use Rattle.aqe_task.specs.Built.{IsBuiltBody, IsBuiltKind};
 ghost use Rattle.aqe_task.specs.Tasks.{IsServedTask, GivesTask, HasRun};
 

@@ -2,7 +2,7 @@
 
 ghost use Rattle.std.specs.Prelude.{IfOk};
 ghost use Rattle.aqe_stages.specs.Stages.{Stages};
-ghost use Rattle.aqe_lists.specs.LoadedTables.{tables_of};
+ghost use Rattle.aqe_estimates.specs.LoadedTables.{tables_of};
 ghost use Rattle.aqe_task.specs.Built.{IsBuiltBody, IsBuiltKind};
 ghost use Rattle.aqe_task.specs.Tasks.{IsServedTask, GivesTask};
 

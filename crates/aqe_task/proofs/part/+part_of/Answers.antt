@@ -3,7 +3,7 @@ use Rattle.std.proofs.lemmas.Result.{IfOk-weaker}
 use Rattle.aqe_task.specs.declared.part_rows.PartRows.{PartRows}
 use Rattle.aqe_logical.specs.Groups.{row_of, group_rows, finish_rows}
 use Rattle.aqe_physical.specs.declared.plan.Plan.{the_lemmas}
-use Rattle.aqe_lists.specs.LoadedTables.{tables_of}
+use Rattle.aqe_estimates.specs.LoadedTables.{tables_of}
 use Rattle.aqe_task.specs.Pieces.{rows_in}
 use Rattle.aqe_task.proofs.PartFacts.{given_narrow}
 use Rattle.aqe_task.proofs.FormSteps.{built_steps, files-scan, kept-read, below-filter, below-project, below-partial, below-final, width-final, gives-scan, gives-read, gives-filter, gives-project, gives-partial, gives-final}

@@ -1,5 +1,5 @@
 use Rattle.std.proofs.Common.{◌∙◌}
-use Rattle.aqe_lists.proofs.Files.{file_at}
+use Rattle.aqe_estimates.proofs.Files.{file_at}
 use Rattle.aqe_task.proofs.FileFacts.{has_file}
 use Rattle.aqe_task.proofs.reading.file_of.Goals as goal
 

@@ -1,7 +1,7 @@
 use Rattle.std.proofs.Common.{◌∙◌, subst, sym, ap, List}
 use Rattle.std.proofs.lemmas.Result.{IfOk-weaker}
 use Rattle.aqe_logical.specs.Answers.{Row}
-use Rattle.aqe_lists.specs.LoadedTables.{tables_of}
+use Rattle.aqe_estimates.specs.LoadedTables.{tables_of}
 use Rattle.aqe_task.specs.Pieces.{rows_in, CanKeepRows, kept_cells}
 use Rattle.aqe_task.proofs.KeptParts.{rows_fit, task_given}
 use Rattle.aqe_task.proofs.task.run_task.Goals as goal

@@ -1,4 +1,0 @@
-pub mod LoadedTables
-pub mod Forms
-pub mod Lists
-pub mod Laws
