@@ -12,12 +12,12 @@ use Rattle.aqe_journal.specs.LegalRecord.{begun}
 use Rattle.aqe_needs.specs.Noted.{BodyFits, BodiesFit}
 use Rattle.aqe_settings.specs.Ranges.{InRange}
 use Rattle.aqe_calm.proofs.RestRuns.{calm_begun}
-use Rattle.aqe_session.specs.declared.run.Run.{Run}
-use Rattle.aqe_session.specs.Begun.{Begins}
-use Rattle.aqe_session.specs.Runs.{IsSteadyRun, Turns}
-use Rattle.aqe_session.specs.Shows.{Shows, is_at}
+use Rattle.aqe_steps.specs.declared.run.Run.{Run}
+use Rattle.aqe_steps.specs.Begun.{Begins}
+use Rattle.aqe_steps.specs.Runs.{IsSteadyRun, Turns}
+use Rattle.aqe_steps.specs.Shows.{Shows, is_at}
 use Rattle.aqe_session.specs.Query.{Stands}
-use Rattle.aqe_session.proofs.Turned.{shows_turned, turned_to}
+use Rattle.aqe_steps.proofs.Turned.{shows_turned, turned_to}
 
 pub begun_steady : (asked : Asked) (run : Run) → Begins asked.query asked.estimates asked.settings run → PartsFit run.versions.plan → IsSteadyRun run
 begun_steady asked run b few = record {

@@ -13,10 +13,10 @@ use Rattle.aqe_journal.specs.declared.record.Finish.TheVariants.{Done}
 use Rattle.aqe_calm.specs.Laws.{Reaches}
 use Rattle.aqe_calm.proofs.CalmStates.{calm_event}
 use Rattle.aqe_calm.proofs.RestRuns.{rest_runs_calm, whole_turn, end_done}
-use Rattle.aqe_session.specs.declared.run.Run.{Run}
+use Rattle.aqe_steps.specs.declared.run.Run.{Run}
 use Rattle.aqe_session.specs.Query.{Stands, Ends}
-use Rattle.aqe_session.proofs.Ended.{shows_ended}
-use Rattle.aqe_session.proofs.Turned.{shows_turned, turned_to}
+use Rattle.aqe_steps.proofs.Ended.{shows_ended}
+use Rattle.aqe_steps.proofs.Turned.{shows_turned, turned_to}
 
 -- the next event of a run in which nothing but the rest ends tasks
 rest_next : (asked : Asked) (now : State) (place : ℕ × ℕ) → Reaches asked now → rest_of (history now) ≡ Some place → next_event asked now ≡ Some (rest_ending place)

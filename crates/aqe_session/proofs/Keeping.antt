@@ -1,28 +1,16 @@
 -- What is kept of tasks, and taken out again.
-use Rattle.std.proofs.Common.{◌≡◌, refl, ap, sym, subst, ◌∙◌, ◌≤◌, ◌+◌, ◌==◌, suc, ℕ, Bool, true, false, cond, ◌&&◌, List, [], ◌∷◌, ◌++◌, arith, Option, Some, None, is_some, slice_get, inl, inr}
+use Rattle.std.proofs.Common.{◌≡◌, refl, ap, sym, ◌∙◌, ◌≤◌, ◌+◌, ◌==◌, suc, ℕ, Bool, true, false, cond, ◌&&◌, List, [], ◌∷◌, ◌++◌, arith, Option, Some, None, is_some, inl, inr}
 use Rattle.std.specs.Prelude.{filter_map}
 use Rattle.std.specs.List.{range_with_len, cons_option}
-use Rattle.std.specs.Option.{unwrap_or, option_map}
+use Rattle.std.specs.Option.{option_map}
 use Rattle.std.proofs.lemmas.Bool.{cases_Bool, eqb-true}
 use Rattle.std.proofs.lemmas.List.{append-nil}
 use Rattle.std.proofs.lemmas.List.Elements.{filter_map-append}
 use Rattle.aqe_base.specs.declared.ids.MapId.{MapId}
 use Rattle.aqe_blocks.specs.Cells.{CellData}
 use Rattle.aqe_blocks.specs.Kept.{AllKept, Changes, output_at}
-use Rattle.aqe_logical.specs.Answers.{Tables}
-use Rattle.aqe_task.specs.Tasks.{GivesTask}
 use Rattle.aqe_endings.proofs.Wholes.{range_end}
-use Rattle.aqe_journal.specs.declared.record.StageNote.{StageNote}
 use Rattle.aqe_session.specs.Finished.{OthersStay, kept_at}
-
-same_note : (notes : List StageNote) (s : ℕ) (a b : StageNote) → slice_get notes s ≡ Some a → slice_get notes s ≡ Some b → a ≡ b
-same_note notes s a b x y = ap (λ o. unwrap_or o a) (sym x ∙ y)
-
--- what a task gives by the note that was looked up
-pub gives_noted : (tables : Tables) (outputs : AllKept) (notes there : List StageNote) (s t : ℕ) (a b : StageNote) (made : List CellData) → there ≡ notes → slice_get notes s ≡ Some a → slice_get there s ≡ Some b →
-    GivesTask tables outputs b.kind b.body t made → GivesTask tables outputs a.kind a.body t made
-gives_noted tables outputs notes there s t a b made e x y gives =
-    subst (λ (n : StageNote). GivesTask tables outputs n.kind n.body t made) (sym (same_note notes s a b x (ap (λ ns. slice_get ns s) (sym e) ∙ y))) gives
 
 -- the outputs of the first maps were taken out, and all others stay
 pub record TakenTo (entry now : AllKept) (s m : ℕ) (taken : List (MapId × List CellData)) : Type 0 where

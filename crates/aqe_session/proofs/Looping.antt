@@ -12,18 +12,17 @@ use Rattle.aqe_scheduler.specs.Fates.{noted}
 use Rattle.aqe_scheduler.specs.Rest.{rest_of}
 use Rattle.aqe_scheduler.specs.Stands.{StandsFor}
 use Rattle.aqe_endings.proofs.Endings.{next_may_end}
-use Rattle.aqe_journal.specs.declared.record.StageNote.{StageNote}
 use Rattle.aqe_journal.specs.declared.record.RunNote.{RunNote}
 use Rattle.aqe_journal.specs.Asked.{Asked}
-use Rattle.aqe_journal.specs.States.{State, history}
+use Rattle.aqe_journal.specs.States.{history}
 use Rattle.aqe_journal.specs.LegalRecord.{is_done}
 use Rattle.aqe_calm.proofs.RestRuns.{rest_runs_calm}
 use Rattle.aqe_calm.proofs.Progress.{tasks_left}
-use Rattle.aqe_session.specs.declared.run.Run.{Run}
-use Rattle.aqe_session.specs.Endings.{CanEnd, EndsTask, NotesWhole}
-use Rattle.aqe_session.specs.Runs.{IsSteadyRun, MakesAll, none, one_more, Turns}
+use Rattle.aqe_steps.specs.declared.run.Run.{Run}
+use Rattle.aqe_steps.specs.Endings.{CanEnd, EndsTask, NotesWhole}
+use Rattle.aqe_steps.specs.Runs.{IsSteadyRun, MakesAll, none, one_more, Turns}
 use Rattle.aqe_session.specs.Query.{ran_of, HasRunAll, is_whole_in, Stands, IsRunning, IsOpen, IsNext, Ends, Goes, IsDone}
-use Rattle.aqe_session.proofs.Ended.{can_end, shows_ended}
+use Rattle.aqe_steps.proofs.Ended.{can_end, shows_ended}
 use Rattle.aqe_session.proofs.Finished.{done_is}
 use Rattle.aqe_session.proofs.Going.{goes}
 
@@ -31,7 +30,7 @@ made_runs : (run new : Run) (done : List Making) → MakesAll run done new → n
 made_runs run new done none = refl
 made_runs run new done (one_more makings making rest mid last made ready m) = m.stays.runs ∙ made_runs run mid makings made
 
-turns_runs : (old new : Run) (is_turning : Bool) → Turns old new is_turning → new.runs ≡ old.runs
+pub turns_runs : (old new : Run) (is_turning : Bool) → Turns old new is_turning → new.runs ≡ old.runs
 turns_runs old new true t = t.marks.stays.runs ∙ made_runs old t.between _ t.makes
 turns_runs old new false t = t.marks.stays.runs ∙ ap (λ r. r.runs) (sym t.makes)
 

@@ -60,7 +60,3 @@ first_fits left rest note all e = All-head BodyFits note rest (subst BodiesFit e
 
 pub filled_end : (entry now : AllKept) (notes left all : List StageNote) → FilledTo entry now notes left all → left ≡ [] → all ≡ all_filled entry 0 notes
 filled_end entry now notes left all f e = sym (append-nil all) ∙ ap (λ l. all ++ all_filled entry (length all) l) (sym e) ∙ f.whole
-
-pub nothing_left : {X : Type 0} (xs : List X) (n : ℕ) → n ≡ length xs → n ≡ 0 → xs ≡ []
-nothing_left [] n e z = refl
-nothing_left (x ∷ xs) n e z = absurd (omega (arith, e, z))

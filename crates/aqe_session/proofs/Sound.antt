@@ -21,7 +21,7 @@ use Rattle.aqe_physical.specs.Counts.{PartsFit}
 use Rattle.aqe_tables.specs.declared.loaded.Table.{Table}
 use Rattle.std.specs.Option.{IsSomeAnd}
 use Rattle.aqe_tables.specs.Loaded.{Slots, table_at}
-use Rattle.aqe_lists.specs.LoadedTables.{files_of as files_in, tables_of}
+use Rattle.aqe_estimates.specs.LoadedTables.{files_of as files_in, tables_of}
 use Rattle.aqe_fitting.specs.Known.{files_of}
 use Rattle.aqe_fitting.specs.Fits.{Fits}
 use Rattle.aqe_fit_laws.specs.Leaves.{IsPlannedYet, ScanIsRight, ScansRight}
@@ -30,7 +30,7 @@ use Rattle.aqe_replan.specs.Laws.{HasFewFiles}
 use Rattle.aqe_replan.proofs.Parts.{few_parts}
 use Rattle.aqe_journal.specs.Asked.{Asked}
 use Rattle.aqe_journal.specs.Laws.{IsSound}
-use Rattle.aqe_session.specs.Estimates.{HasSomeFiles, HasFiles, not_scanned, estimate_in, reach, estimated, estimates_of}
+use Rattle.aqe_estimates.specs.Estimates.{HasSomeFiles, HasFiles, not_scanned, estimate_in, reach, estimated, estimates_of}
 
 clash : false ≡ true → ⊥
 clash c = cc (c)

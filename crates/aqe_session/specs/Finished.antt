@@ -14,8 +14,8 @@ use Rattle.aqe_journal.specs.declared.record.RunNote.{RunNote}
 use Rattle.aqe_journal.specs.declared.record.StageNote.{StageNote}
 use Rattle.aqe_journal.specs.declared.record.VersionNote.{VersionNote}
 use Rattle.aqe_journal.specs.declared.record.QueryRecord.{QueryRecord}
-use Rattle.aqe_session.specs.declared.run.Run.{Run}
-use Rattle.aqe_session.specs.Runs.{IsSteadyRun}
+use Rattle.aqe_steps.specs.declared.run.Run.{Run}
+use Rattle.aqe_steps.specs.Runs.{IsSteadyRun}
 
 -- the first cell of the output of a map
 abbrev pub first_cell : AllKept → ℕ → ℕ → List Row

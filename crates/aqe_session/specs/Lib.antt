@@ -1,7 +1,2 @@
-pub mod Runs
-pub mod Begun
-pub mod Endings
-pub mod Estimates
 pub mod Finished
-pub mod Shows
 pub mod Query

@@ -1,14 +1,18 @@
 -- What a query comes to.
-use Rattle.std.specs.Prelude.{◌≡◌, ℕ, Bool, true, false, List, [], ◌∷◌, ◌++◌, map, length, Option, Some, None, All}
+use Rattle.std.specs.Prelude.{◌≡◌, ◌⊎◌, ℕ, Bool, true, false, List, [], ◌∷◌, ◌++◌, map, length, Option, Some, None, All, Result, Ok, Err}
 use Rattle.aqe_base.specs.declared.stage_id.StageId.{StageId}
 use Rattle.aqe_base.specs.declared.ids.TaskId.{TaskId}
 use Rattle.aqe_base.specs.declared.event.Event.{Event}
+use Rattle.aqe_base.specs.declared.memory.Memory.{Memory}
 use Rattle.aqe_logical.specs.declared.plan.Logical.{Logical}
-use Rattle.aqe_logical.specs.Answers.{Tables}
+use Rattle.aqe_logical.specs.Answers.{AnswerOf, Tables, no_stage}
+use Rattle.aqe_logical.specs.Nodes.{scans}
+use Rattle.aqe_logical.specs.WellFormed.{WellFormed, LeavesFit}
+use Rattle.aqe_planner.specs.Built.{IsBuilt}
 use Rattle.aqe_settings.specs.declared.entry.Value.{Value}
 use Rattle.aqe_settings.specs.Ranges.{InRange}
 use Rattle.aqe_tables.specs.Loaded.{Slots}
-use Rattle.aqe_lists.specs.LoadedTables.{tables_of}
+use Rattle.aqe_estimates.specs.LoadedTables.{tables_of}
 use Rattle.aqe_stages.specs.Stands.{StandsFor as VersionStandsFor}
 use Rattle.aqe_scheduler.specs.History.{Step}
 use Rattle.aqe_scheduler.specs.Looks.{whole}
@@ -28,12 +32,12 @@ use Rattle.aqe_session.specs.declared.query.Rest.{Rest}
 use Rattle.aqe_session.specs.declared.query.Rest.TheVariants as rest
 use Rattle.aqe_session.specs.declared.query.QueryEnd.{QueryEnd}
 use Rattle.aqe_session.specs.declared.query.QueryEnd.TheVariants as end
-use Rattle.aqe_session.specs.declared.run.Run.{Run}
-use Rattle.aqe_session.specs.Begun.{Begins}
-use Rattle.aqe_session.specs.Endings.{EndsTask, NotesWhole}
-use Rattle.aqe_session.specs.Estimates.{estimates_of}
-use Rattle.aqe_session.specs.Runs.{Turns}
-use Rattle.aqe_session.specs.Shows.{Shows}
+use Rattle.aqe_steps.specs.declared.run.Run.{Run}
+use Rattle.aqe_steps.specs.Begun.{Begins}
+use Rattle.aqe_steps.specs.Endings.{EndsTask, NotesWhole}
+use Rattle.aqe_estimates.specs.Estimates.{HasFiles, estimates_of}
+use Rattle.aqe_steps.specs.Runs.{Turns}
+use Rattle.aqe_steps.specs.Shows.{Shows}
 
 -- whether the rest is run
 abbrev pub runs_rest : Rest → Bool
@@ -54,6 +58,18 @@ asked_of query slots settings events left = record {
 -- the stage and the task of a run
 abbrev pub ran_of : RunNote → StageId × TaskId
 ran_of run = (run.stage, run.task)
+
+-- What a query must be to be asked of a session: its plan is well formed, and of the forms that are planned so far; each table that it
+-- scans is loaded, with 1 to 1,000 files; and a row of a table has as many values as each scan of it has fields.
+pub record CanBeAsked (query : Logical) (slots : Slots) : Type 0 where
+  pub built : IsBuilt query
+  pub formed : WellFormed query
+  pub loaded : All (HasFiles slots) (scans query)
+  pub wide : LeavesFit (tables_of slots) no_stage query
+
+-- no events come from a file yet, and the rest is run
+abbrev pub IsAlone : List Event → Rest → Type 0
+IsAlone events left = (events ≡ []) × (left ≡ rest.Run)
 
 -- what a runner ran grew as the runs that were noted did
 abbrev pub HasRunAll : List (StageId × TaskId) → List RunNote → List (StageId × TaskId) → List RunNote → Type 0
@@ -125,10 +141,11 @@ pub record IsReady (tables : Tables) (run : Run) : Type 0 where
 abbrev pub CarriesOut : Tables → Run → Run → Type 0
 CarriesOut tables old new = (asked : Asked) → asked.tables ≡ tables → IsReadyFor asked old → IsDoneFor asked new
 
--- A record is legal for a query, and each of its versions stands for it.
+-- A record is legal for a query, and each of its versions stands for it; where the query is done its rows are an answer.
 pub record Answers (asked : Asked) (note : QueryRecord) : Type 0 where
   pub legal : Legal note asked
   pub versions : All (λ version. VersionStandsFor asked.tables legal.last.stages version.plan asked.query) note.versions
+  pub rows : note.finish ≡ finish.Done → AnswerOf asked.tables asked.query note.rows
 
 -- the record of a query that is done, and what the runner ran for it
 pub record IsAnswered (asked : Asked) (query : ℕ) (before after : List (StageId × TaskId)) (note : QueryRecord) : Type 0 where
@@ -137,10 +154,19 @@ pub record IsAnswered (asked : Asked) (query : ℕ) (before after : List (StageI
   pub answers : Answers asked note
   pub ran : after ≡ before ++ map ran_of note.runs
 
+-- the same of whatever query it is over these tables for which the session is ready
+abbrev pub AnswersReady : Tables → Run → ℕ → List (StageId × TaskId) → List (StageId × TaskId) → QueryRecord → Type 0
+AnswersReady tables run query before after note = (asked : Asked) → asked.tables ≡ tables → IsReadyFor asked run → IsAnswered asked query before after note
+
+-- a record is added, or memory was wanted and the journal stays
 abbrev pub IsAdded : QueryRecord → List QueryRecord → List QueryRecord → QueryEnd → Type 0
 IsAdded note old new end.Done = new ≡ old ++ note ∷ []
 IsAdded note old new end.Memory = new ≡ old
 IsAdded note old new other = ⊥
+
+abbrev pub IsAddedOf : Result QueryRecord Memory → List QueryRecord → List QueryRecord → QueryEnd → Type 0
+IsAddedOf (Ok note) old new told = IsAdded note old new told
+IsAddedOf (Err memory) old new told = (new ≡ old) × (told ≡ end.Memory)
 
 -- the finish of a record of which a query's end is told
 abbrev pub finish_of : QueryEnd → Finish
@@ -163,3 +189,7 @@ pub record Adds (asked : Asked) (old new : List QueryRecord) (before after : Lis
 abbrev pub EndsQuery : Asked → List QueryRecord → List QueryRecord → List (StageId × TaskId) → List (StageId × TaskId) → QueryEnd → Type 0
 EndsQuery asked old new before after end.Memory = new ≡ old
 EndsQuery asked old new before after told = Adds asked old new before after told
+
+-- as no task fails and the rest is run, a query is done, unless memory was wanted
+abbrev pub IsDoneOrMemory : QueryEnd → Type 0
+IsDoneOrMemory told = (told ≡ end.Done) ⊎ (told ≡ end.Memory)

@@ -1,17 +1,15 @@
 //! When a query is done, and how it ends.
 
 ghost use Rattle.std.specs.Prelude.{◌≡◌, List, OnOk};
-ghost use Rattle.aqe_lists.specs.LoadedTables.{tables_of};
+ghost use Rattle.aqe_estimates.specs.LoadedTables.{tables_of};
 ghost use Rattle.aqe_scheduler.specs.Fates.{noted};
 ghost use Rattle.aqe_scheduler.specs.History.{Entry};
 ghost use Rattle.aqe_scheduler.specs.Stands.{StandsFor};
 ghost use Rattle.aqe_session.specs.Query as spec;
-ghost use Rattle.aqe_session.specs.Query.{HasRunAll, IsOpen, Goes, IsDone, Ends};
+ghost use Rattle.aqe_session.specs.Query.{Ends, Goes, HasRunAll, IsDone, IsOpen};
 
-use crate::ending::{end, note_whole};
-use crate::run::Run;
-use crate::settle::turn;
 use aqe_base::{Memory, StageId, TaskId};
+use aqe_steps::{Run, end, note_whole, turn};
 use aqe_tables::Tables;
 use aqe_task::Runner;
 use std::alloc::Global;

@@ -8,7 +8,6 @@ ghost use Rattle.aqe_needs.specs.Noted.{BodyFits, BodiesFit};
 ghost use Rattle.aqe_session.specs.Finished as spec;
 ghost use Rattle.aqe_session.specs.Finished.{CanFinish, OthersStay};
 
-use crate::run::{Run, numbered};
 use aqe_base::{Listing, MapId, Memory, ReduceId, StageId};
 use aqe_blocks::Outputs;
 use aqe_boxes::both;
@@ -16,6 +15,7 @@ use aqe_journal::{
     FateList, Finish, NoteOutputs, QueryRecord, RunList, StageNote, StageNotes, VersionNotes,
 };
 use aqe_physical::parts;
+use aqe_steps::{Run, numbered};
 use aqe_values::{Row, Rows};
 use std::alloc::Global;
 

@@ -1,5 +1,5 @@
-use Rattle.aqe_lists.specs.LoadedTables.{tables_of}
-use Rattle.aqe_session.proofs.Marking.{on_ok}
+use Rattle.aqe_estimates.specs.LoadedTables.{tables_of}
+use Rattle.aqe_steps.proofs.Marking.{on_ok}
 use Rattle.aqe_session.proofs.Looping.{next_can_end, ended_below, steady_noted, ran_once}
 use Rattle.aqe_session.proofs.query.end_task.Goals as goal
 

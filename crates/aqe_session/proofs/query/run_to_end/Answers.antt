@@ -1,4 +1,4 @@
-use Rattle.aqe_lists.specs.LoadedTables.{tables_of}
+use Rattle.aqe_estimates.specs.LoadedTables.{tables_of}
 use Rattle.aqe_session.proofs.Looping.{runs_begun, runs_open, runs_more, runs_done}
 use Rattle.aqe_session.proofs.query.run_to_end.Goals as goal
 

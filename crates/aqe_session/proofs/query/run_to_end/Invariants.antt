@@ -1,5 +1,5 @@
 -- the tasks so far were ended one after the other
-use Rattle.aqe_lists.specs.LoadedTables.{tables_of}
+use Rattle.aqe_estimates.specs.LoadedTables.{tables_of}
 use Rattle.aqe_session.proofs.Looping.{RunsTo}
 use Rattle.aqe_session.proofs.query.run_to_end.Given as goal
 

@@ -1,5 +1,6 @@
 use Rattle.std.proofs.Common.{arith, ap, length, ◌∙◌}
-use Rattle.aqe_session.proofs.Rows.{filled_none, filled_more, filled_end, nothing_left}
+use Rattle.aqe_steps.proofs.Settling.{nothing_left}
+use Rattle.aqe_session.proofs.Rows.{filled_none, filled_more, filled_end}
 use Rattle.aqe_session.proofs.record.all_with_outputs.Goals as goal
 
 pub notes-init : goal.notes-init

@@ -1,6 +1,0 @@
--- the marks before the next one were told
-use Rattle.aqe_session.proofs.Marking.{Told}
-use Rattle.aqe_session.proofs.marks.tell.Given as goal
-
-abbrev pub invariant-marks : goal.invariant-marks
-invariant-marks l = Told l.fn.board l.board l.marks l.n

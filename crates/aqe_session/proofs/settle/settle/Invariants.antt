@@ -1,6 +1,0 @@
--- the makings before those that are left were made
-use Rattle.aqe_session.proofs.Settling.{SettledTo}
-use Rattle.aqe_session.proofs.settle.settle.Given as goal
-
-abbrev pub invariant-makings : goal.invariant-makings
-invariant-makings l = SettledTo l.fn.run l.run l.making-iterator.rest.items

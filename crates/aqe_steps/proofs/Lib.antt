@@ -1,0 +1,11 @@
+pub mod Notes
+pub mod Recorded
+pub mod Ready
+pub mod Made
+pub mod Cells
+pub mod Ended
+pub mod Turned
+pub mod Marking
+pub mod Making
+pub mod Giving
+pub mod Settling

@@ -1,0 +1,4 @@
+pub mod Runs
+pub mod Begun
+pub mod Endings
+pub mod Shows
