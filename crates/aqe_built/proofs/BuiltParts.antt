@@ -1,7 +1,5 @@
 -- What the parts of a query are where it is carried out so far.
 use Rattle.std.proofs.Common.{ℕ, ◌≡◌, Bool, true, false, not, List, [], ◌∷◌, ◌++◌, map, flat_map, Option, Some, None, refl, ap, sym, ◌∙◌}
-use Rattle.std.specs.Prelude.{◌&&◌, ◌||◌}
-use Rattle.std.specs.List.{list_all, list_any}
 use Rattle.std.specs.Option.{is_some}
 use Rattle.aqe_trees.specs.declared.expression.OrTree.{OrTree}
 use Rattle.aqe_trees.specs.declared.query.QueryTree.{QueryTree}
@@ -14,17 +12,15 @@ use Rattle.aqe_trees.specs.declared.query.JoinStep.{JoinStep}
 use Rattle.aqe_trees.specs.declared.query.SourceTree.{SourceTree}
 use Rattle.aqe_trees.specs.declared.query.SourceTree.TheVariants as source
 use Rattle.aqe_trees.specs.declared.query.ItemTree.{ItemTree}
-use Rattle.aqe_trees.specs.declared.query.ItemTree.TheVariants as item
 use Rattle.aqe_trees.specs.declared.query.SortTree.{SortTree}
 use Rattle.aqe_trees.specs.Shapes.{query_tree, union_tree, select_tree, joined_tree}
-use Rattle.aqe_rules.specs.Expressions.{has_aggregate}
-use Rattle.aqe_rules.specs.Selects.{is_empty, is_grouped, item_has_aggregate}
+use Rattle.aqe_rules.specs.Selects.{is_empty}
 use Rattle.aqe_rules.specs.QueryTrees.{made_of_step}
 use Rattle.aqe_rules.proofs.QueryLevels as level
 use Rattle.aqe_built.specs.declared.form.Form.{Form}
 use Rattle.aqe_built.specs.declared.form.Form.TheVariants as form
-use Rattle.aqe_built.specs.Forms.{given, calls, calls_if_any, item_calls, clause, having_forms, from_forms, forms, of_union, of_core, of_joined, of_source}
-use Rattle.aqe_built.specs.Built.{is_item_built, is_filter_built, is_from_built, is_query_built, is_union_built, is_core_built, is_select_built, is_joined_built, is_source_built}
+use Rattle.aqe_built.specs.Forms.{given, from_forms, forms, of_union, of_core, of_joined, of_source}
+use Rattle.aqe_built.specs.Built.{is_from_built, is_query_built, is_union_built, is_core_built, is_select_built, is_joined_built, is_source_built}
 
 -- where two lists have nothing together, neither has
 left : (a b : List Form) → is_empty (a ++ b) ≡ true → is_empty a ≡ true
@@ -44,39 +40,13 @@ missing : {A : Type 0} (o : Option A) (f : Form) → is_empty (given (is_some o)
 missing None f h = refl
 missing (Some a) f h = cc
 
-no_clause : (f : Form) (values : List OrTree) → is_empty (clause f values) ≡ true → values ≡ []
-no_clause f [] h = refl
-no_clause f (value ∷ values) h = cc
-
-no_order : (sorts : List SortTree) → is_empty (clause form.OrderBy (map (λ sort. sort.value) sorts)) ≡ true → sorts ≡ []
+no_order : (sorts : List SortTree) → is_empty (given (not (is_empty sorts)) form.OrderBy) ≡ true → sorts ≡ []
 no_order [] h = refl
 no_order (sort ∷ sorts) h = cc
 
 nothing_behind : {A B : Type 0} (f : Form) (of : B → List Form) (make : A → B) (rest : List A) → is_empty (flat_map (λ next. f ∷ of next) (map make rest)) ≡ true → rest ≡ []
 nothing_behind f of make [] h = refl
 nothing_behind f of make (next ∷ rest) h = cc
-
-having_missing : (having : Option OrTree) → is_empty (having_forms having) ≡ true → having ≡ None
-having_missing None h = refl
-having_missing (Some value) h = cc
-
-no_calls_in : (value : OrTree) → is_empty (calls value) ≡ true → not (has_aggregate value) ≡ true
-no_calls_in value h = ap not (not_given (has_aggregate value) form.Call h)
-
-filter_built : (filter : Option OrTree) → is_empty (calls_if_any filter) ≡ true → is_filter_built filter ≡ true
-filter_built None h = refl
-filter_built (Some value) h = no_calls_in value h
-
-item_built : (one : ItemTree) → is_empty (item_calls one) ≡ true → is_item_built one ≡ true
-item_built item.All h = refl
-item_built (item.AllOf name) h = refl
-item_built (item.One value alias) h = no_calls_in value h
-
-items_built : (items : List ItemTree) → is_empty (flat_map item_calls items) ≡ true → list_all is_item_built items ≡ true
-items_built [] h = refl
-items_built (one ∷ items) h =
-    ap (λ b. b && list_all is_item_built items) (item_built one (left (item_calls one) (flat_map item_calls items) h)) ∙
-    items_built items (right (item_calls one) (flat_map item_calls items) h)
 
 from_built : (from : List JoinedTree) → is_empty (from_forms (map of_joined from)) ≡ true → is_from_built (map is_joined_built from) ≡ true
 from_built [] h = refl
@@ -97,7 +67,7 @@ pub record QueryParts (body : UnionTree) (sorts : List SortTree) (limit offset :
 
 pub query_parts : (body : UnionTree) (sorts : List SortTree) (limit offset : Option ℕ) → is_query_built (query_tree body sorts limit offset) ≡ true → QueryParts body sorts limit offset
 query_parts body sorts limit offset h =
-    let s : List Form = clause form.OrderBy (map (λ sort. sort.value) sorts) in
+    let s : List Form = given (not (is_empty sorts)) form.OrderBy in
     let l : List Form = given (is_some limit) form.Limit in
     let f : List Form = given (is_some offset) form.Offset in
     let four : is_empty (of_union body ++ s ++ l ++ f) ≡ true = sym (ap is_empty (level.of_query forms body sorts limit offset)) ∙ h in
@@ -136,36 +106,20 @@ pub from_parts : (first : JoinedTree) (rest : List JoinedTree) → is_from_built
 from_parts first [] h = (h, refl)
 from_parts first (other ∷ more) h = cc
 
--- a SELECT has no DISTINCT, GROUP BY, HAVING and aggregate call
-pub record SelectParts (distinct : Bool) (items : List ItemTree) (from : List JoinedTree) (filter : Option OrTree) (group : List OrTree) (having : Option OrTree) : Type 0 where
+-- a SELECT has no DISTINCT
+pub record SelectParts (distinct : Bool) (from : List JoinedTree) : Type 0 where
   pub not_distinct : distinct ≡ false
-  pub items_built : list_all is_item_built items ≡ true
   pub from_built : is_from_built (map is_joined_built from) ≡ true
-  pub filter_built : is_filter_built filter ≡ true
-  pub no_group : group ≡ []
-  pub no_having : having ≡ None
 
 pub select_parts : (distinct : Bool) (items : List ItemTree) (from : List JoinedTree) (filter : Option OrTree) (group : List OrTree) (having : Option OrTree) →
-    is_select_built (select_tree distinct items from filter group having) ≡ true → SelectParts distinct items from filter group having
+    is_select_built (select_tree distinct items from filter group having) ≡ true → SelectParts distinct from
 select_parts distinct items from filter group having h =
     let a : List Form = given distinct form.Distinct in
-    let b : List Form = flat_map item_calls items in
-    let d : List Form = from_forms (map of_joined from) in
-    let e : List Form = calls_if_any filter in
-    let f : List Form = clause form.GroupBy group in
-    let g : List Form = having_forms having in
-    let six : is_empty (a ++ b ++ d ++ e ++ f ++ g) ≡ true = sym (ap is_empty (level.of_select forms distinct items from filter group having)) ∙ h in
-    let five : is_empty (a ++ b ++ d ++ e ++ f) ≡ true = left (a ++ b ++ d ++ e ++ f) g six in
-    let four : is_empty (a ++ b ++ d ++ e) ≡ true = left (a ++ b ++ d ++ e) f five in
-    let three : is_empty (a ++ b ++ d) ≡ true = left (a ++ b ++ d) e four in
-    let two : is_empty (a ++ b) ≡ true = left (a ++ b) d three in
+    let b : List Form = from_forms (map of_joined from) in
+    let both : is_empty (a ++ b) ≡ true = sym (ap is_empty (level.of_select forms distinct items from filter group having)) ∙ h in
     record {
-      not_distinct = not_given distinct form.Distinct (left a b two);
-      items_built = items_built items (right a b two);
-      from_built = from_built from (right (a ++ b) d three);
-      filter_built = filter_built filter (right (a ++ b ++ d) e four);
-      no_group = no_clause form.GroupBy group (right (a ++ b ++ d ++ e) f five);
-      no_having = having_missing having (right (a ++ b ++ d ++ e ++ f) g six);
+      not_distinct = not_given distinct form.Distinct (left a b both);
+      from_built = from_built from (right a b both);
     }
 
 -- there is no JOIN
@@ -175,39 +129,12 @@ pub record JoinedParts (first : SourceTree) (rest : List JoinStep) : Type 0 wher
 
 pub joined_parts : (first : SourceTree) (rest : List JoinStep) → is_joined_built (joined_tree first rest) ≡ true → JoinedParts first rest
 joined_parts first rest h =
-    let behind : List Form = flat_map (λ step. form.Join ∷ step.source ++ calls_if_any step.on) (map (made_of_step forms) rest) in
+    let behind : List Form = flat_map (λ step. form.Join ∷ step.source) (map (made_of_step forms) rest) in
     let all : is_empty (of_source first ++ behind) ≡ true = sym (ap is_empty (level.of_joined forms first rest)) ∙ h in
     record {
       first_built = left (of_source first) behind all;
-      no_rest = nothing_behind form.Join (λ step. step.source ++ calls_if_any step.on) (made_of_step forms) rest (right (of_source first) behind all);
+      no_rest = nothing_behind form.Join (λ step. step.source) (made_of_step forms) rest (right (of_source first) behind all);
     }
 
 pub source_paren : (query : QueryTree) (alias : Option (List ℕ)) → is_source_built (source.Paren query alias) ≡ true → is_query_built query ≡ true
 source_paren query alias h = sym (ap is_empty (level.of_source_paren forms query alias)) ∙ h
-
--- where no item calls an aggregate function, the query is not grouped
-untrue : (b : Bool) → not b ≡ true → b ≡ false
-untrue true h = cc
-untrue false h = refl
-
-this : (a b : Bool) → (a && b) ≡ true → a ≡ true
-this true b h = refl
-this false b h = h
-
-rest : (a b : Bool) → (a && b) ≡ true → b ≡ true
-rest true b h = h
-rest false b h = cc
-
-no_call : (item : ItemTree) → is_item_built item ≡ true → item_has_aggregate item ≡ false
-no_call item.All h = refl
-no_call (item.AllOf name) h = refl
-no_call (item.One value alias) h = untrue (has_aggregate value) h
-
-no_calls : (items : List ItemTree) → list_all is_item_built items ≡ true → list_any item_has_aggregate items ≡ false
-no_calls [] h = refl
-no_calls (item ∷ items) h =
-    ap (λ (b : Bool). b || list_any item_has_aggregate items) (no_call item (this (is_item_built item) (list_all is_item_built items) h)) ∙
-    no_calls items (rest (is_item_built item) (list_all is_item_built items) h)
-
-pub not_grouped : (items : List ItemTree) → list_all is_item_built items ≡ true → is_grouped items [] None [] ≡ false
-not_grouped items h = ap (λ (b : Bool). b || false) (no_calls items h)

@@ -1,19 +1,14 @@
--- Which scripts are carried out so far: those that have no form of specs/Forms.antt. So a query may have FROM with one source,
--- a table or a query, WHERE and a select list without aggregate calls; a table may have no OPTIONS; there is no SET.
-use Rattle.std.specs.Prelude.{Bool, true, false, not, List, [], ◌∷◌, Option}
+-- Which scripts are carried out so far: those that have no form of specs/Forms.antt. So a query may have any select list,
+-- FROM with one source, a table or a query, WHERE, GROUP BY and HAVING; a table may have no OPTIONS; there is no SET.
+use Rattle.std.specs.Prelude.{Bool, true, false, List, [], ◌∷◌}
 use Rattle.std.specs.List.{list_all}
-use Rattle.std.specs.Option.{option_map_or}
-use Rattle.aqe_trees.specs.declared.expression.OrTree.{OrTree}
 use Rattle.aqe_trees.specs.declared.query.QueryTree.{QueryTree}
 use Rattle.aqe_trees.specs.declared.query.UnionTree.{UnionTree}
 use Rattle.aqe_trees.specs.declared.query.CoreTree.{CoreTree}
 use Rattle.aqe_trees.specs.declared.query.SelectTree.{SelectTree}
 use Rattle.aqe_trees.specs.declared.query.JoinedTree.{JoinedTree}
 use Rattle.aqe_trees.specs.declared.query.SourceTree.{SourceTree}
-use Rattle.aqe_trees.specs.declared.query.ItemTree.{ItemTree}
-use Rattle.aqe_trees.specs.declared.query.ItemTree.TheVariants as item
 use Rattle.aqe_trees.specs.declared.statement.Stmt.{Stmt}
-use Rattle.aqe_rules.specs.Expressions.{has_aggregate}
 use Rattle.aqe_rules.specs.Selects.{is_empty}
 use Rattle.aqe_built.specs.Forms.{of_query, of_union, of_core, of_select, of_joined, of_source, of_statement}
 
@@ -36,15 +31,7 @@ is_joined_built tree = is_empty (of_joined tree)
 abbrev pub is_source_built : SourceTree → Bool
 is_source_built tree = is_empty (of_source tree)
 
--- What that says of the clauses of a SELECT: an item of the select list calls no aggregate function; there is no condition,
--- or one that calls none; there is no FROM, or one source, which is carried out.
-abbrev pub is_item_built : ItemTree → Bool
-is_item_built (item.One value alias) = not (has_aggregate value)
-is_item_built other = true
-
-abbrev pub is_filter_built : Option OrTree → Bool
-is_filter_built filter = not (option_map_or has_aggregate filter false)
-
+-- what that says of FROM: there is none, or one source, which is carried out
 abbrev pub is_from_built : List Bool → Bool
 is_from_built [] = true
 is_from_built (one ∷ []) = one

@@ -1,19 +1,15 @@
--- The forms of a script that are not carried out so far, in the order in which they are read: SET, OPTIONS, DISTINCT, calls
--- of aggregate functions, JOIN, GROUP BY, HAVING, UNION, ORDER BY, LIMIT and OFFSET.
-use Rattle.std.specs.Prelude.{ℕ, Bool, true, false, not, List, [], ◌∷◌, ◌++◌, map, flat_map, Option, Some, None, codes}
+-- The forms of a script that are not carried out so far, in the order in which they are read: SET, OPTIONS, DISTINCT, JOIN,
+-- UNION, ORDER BY, LIMIT and OFFSET.
+use Rattle.std.specs.Prelude.{ℕ, Bool, true, false, not, List, [], ◌∷◌, ◌++◌, flat_map, Option, Some, None, codes}
 use Rattle.std.specs.Option.{is_some}
-use Rattle.aqe_trees.specs.declared.expression.OrTree.{OrTree}
 use Rattle.aqe_trees.specs.declared.query.QueryTree.{QueryTree}
 use Rattle.aqe_trees.specs.declared.query.UnionTree.{UnionTree}
 use Rattle.aqe_trees.specs.declared.query.CoreTree.{CoreTree}
 use Rattle.aqe_trees.specs.declared.query.SelectTree.{SelectTree}
 use Rattle.aqe_trees.specs.declared.query.JoinedTree.{JoinedTree}
 use Rattle.aqe_trees.specs.declared.query.SourceTree.{SourceTree}
-use Rattle.aqe_trees.specs.declared.query.ItemTree.{ItemTree}
-use Rattle.aqe_trees.specs.declared.query.ItemTree.TheVariants as item
 use Rattle.aqe_trees.specs.declared.statement.Stmt.{Stmt}
 use Rattle.aqe_trees.specs.declared.statement.Stmt.TheVariants as statement
-use Rattle.aqe_rules.specs.Expressions.{has_aggregate}
 use Rattle.aqe_rules.specs.Selects.{is_empty}
 use Rattle.aqe_rules.specs.QueryForms.{QueryForms}
 use Rattle.aqe_rules.specs.QueryTrees.{made_of_query, made_of_union, made_of_core, made_of_select, made_of_joined, made_of_source}
@@ -25,10 +21,7 @@ abbrev pub text_of : Form → List ℕ
 text_of form.Set = codes "SET"
 text_of form.Options = codes "OPTIONS"
 text_of form.Distinct = codes "DISTINCT"
-text_of form.Call = codes "aggregate call"
 text_of form.Join = codes "JOIN"
-text_of form.GroupBy = codes "GROUP BY"
-text_of form.Having = codes "HAVING"
 text_of form.Union = codes "UNION"
 text_of form.OrderBy = codes "ORDER BY"
 text_of form.Limit = codes "LIMIT"
@@ -44,27 +37,6 @@ abbrev pub given : Bool → Form → List Form
 given true one = one ∷ []
 given false one = []
 
--- an expression that calls an aggregate function
-abbrev pub calls : OrTree → List Form
-calls value = given (has_aggregate value) form.Call
-
-abbrev pub calls_if_any : Option OrTree → List Form
-calls_if_any None = []
-calls_if_any (Some value) = calls value
-
-abbrev pub item_calls : ItemTree → List Form
-item_calls (item.One value alias) = calls value
-item_calls other = []
-
--- a clause with its expressions; it is not there where it has none
-abbrev pub clause : Form → List OrTree → List Form
-clause keyword [] = []
-clause keyword (value ∷ more) = keyword ∷ flat_map calls (value ∷ more)
-
-abbrev pub having_forms : Option OrTree → List Form
-having_forms None = []
-having_forms (Some value) = form.Having ∷ calls value
-
 -- the items of FROM, each with its own forms: a comma between two joins them
 abbrev pub from_forms : List (List Form) → List Form
 from_forms [] = []
@@ -74,12 +46,11 @@ from_forms (one ∷ more) = one ++ flat_map (λ next. form.Join ∷ next) more
 abbrev pub forms : QueryForms (List Form) (List Form) (List Form) (List Form) (List Form)
 forms = record {
   query = λ body sorts limit offset.
-      body ++ clause form.OrderBy (map (λ sort. sort.value) sorts) ++ given (is_some limit) form.Limit ++ given (is_some offset) form.Offset;
+      body ++ given (not (is_empty sorts)) form.OrderBy ++ given (is_some limit) form.Limit ++ given (is_some offset) form.Offset;
   union = λ core rest. core ++ flat_map (λ next. form.Union ∷ next.1) rest;
   paren = λ query. query;
-  select = λ distinct list from filter group having.
-      given distinct form.Distinct ++ flat_map item_calls list ++ from_forms from ++ calls_if_any filter ++ clause form.GroupBy group ++ having_forms having;
-  joined = λ source steps. source ++ flat_map (λ step. form.Join ∷ step.source ++ calls_if_any step.on) steps;
+  select = λ distinct list from filter group having. given distinct form.Distinct ++ from_forms from;
+  joined = λ source steps. source ++ flat_map (λ step. form.Join ∷ step.source) steps;
   table = λ name alias. [];
   subquery = λ query alias. query;
 }

@@ -10,12 +10,8 @@ pub enum Form {
     /// OPTIONS of a table.
     Options,
     Distinct,
-    /// A call of an aggregate function.
-    Call,
     /// JOIN of any kind, or a comma between the items of FROM.
     Join,
-    GroupBy,
-    Having,
     /// UNION, also UNION ALL.
     Union,
     OrderBy,
@@ -24,7 +20,7 @@ pub enum Form {
 }
 
 impl Form {
-    /// How the form is told to a user: by its keyword, where it has one.
+    /// How the form is told to a user: by its keyword.
     pub fn text(self) -> &'static str
         ensures { result.now ≡ text_of self }
     {
@@ -32,10 +28,7 @@ impl Form {
             Form::Set => "SET",
             Form::Options => "OPTIONS",
             Form::Distinct => "DISTINCT",
-            Form::Call => "aggregate call",
             Form::Join => "JOIN",
-            Form::GroupBy => "GROUP BY",
-            Form::Having => "HAVING",
             Form::Union => "UNION",
             Form::OrderBy => "ORDER BY",
             Form::Limit => "LIMIT",

@@ -1,7 +1,6 @@
 //! Which scripts the program carries out so far. It goes once all forms of a query are carried out.
 #![tactic(auto)]
 
-mod calls;
 mod form;
 mod parts;
 mod query;

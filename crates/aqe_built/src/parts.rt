@@ -1,9 +1,7 @@
 //! The parts of a query that is carried out so far, without what such a query lacks.
 
 ghost use Rattle.std.specs.Prelude.{◌≡◌, [], ◌∷◌, map, false, IsTrue, MatchOption};
-ghost use Rattle.std.specs.List.{list_all};
 ghost use Rattle.aqe_built.specs.Built as spec;
-ghost use Rattle.aqe_rules.specs.Selects.{is_grouped};
 ghost use Rattle.aqe_trees.specs.Shapes.{query_tree, union_tree, select_tree, joined_tree};
 
 use aqe_script::parts::{joined_parts, query_parts, select_parts, union_parts};
@@ -33,18 +31,23 @@ pub fn only_core(union: &UnionTree) -> &CoreTree
     first
 }
 
-/// The select list, FROM and WHERE.
-#[tactic(auto, using(crate::proofs::BuiltParts::select_parts, crate::proofs::BuiltParts::not_grouped))]
-pub fn clauses(select: &SelectTree) -> (&[ItemTree], &[JoinedTree], &Option<OrTree>)
+/// The select list, FROM, WHERE, GROUP BY and HAVING.
+#[tactic(auto, using(crate::proofs::BuiltParts::select_parts))]
+pub fn clauses(
+    select: &SelectTree,
+) -> (
+    &[ItemTree],
+    &[JoinedTree],
+    &Option<OrTree>,
+    &[OrTree],
+    &Option<OrTree>,
+)
     requires { IsTrue (spec.is_select_built select.now) }
-    ensures parts { select.now ≡ select_tree false result.0.now result.1.now result.2.now [] None }
+    ensures parts { select.now ≡ select_tree false result.0.now result.1.now result.2.now result.3.now result.4.now }
     ensures from { IsTrue (spec.is_from_built (map spec.is_joined_built result.1.now)) }
-    ensures items { IsTrue (list_all spec.is_item_built result.0.now) }
-    ensures filter { IsTrue (spec.is_filter_built result.2.now) }
-    ensures ungrouped { is_grouped result.0.now [] None [] ≡ false }
 {
-    let (_, items, from, filter, _, _) = select_parts(select);
-    (items, from, filter)
+    let (_, items, from, filter, group, having) = select_parts(select);
+    (items, from, filter, group, having)
 }
 
 /// The one item of FROM, where there is one.

@@ -1,56 +1,19 @@
 //! The first form of a query that is not carried out so far. Each function here answers for its part of the tree.
 
 ghost use Rattle.std.specs.Prelude.{◌≡◌, map};
-ghost use Rattle.std.specs.List.{list_all};
 ghost use Rattle.aqe_built.specs.Built as spec;
 ghost use Rattle.aqe_built.specs.Forms.{first, from_forms, of_query, of_union, of_core, of_select, of_joined, of_source};
 ghost use Rattle.aqe_rules.specs.Selects as select;
 
-use crate::calls::has_aggregate;
 use crate::form::Form;
 use aqe_script::parts::{joined_parts, query_parts, select_parts, union_parts};
-use aqe_trees::{
-    CoreTree, ItemTree, JoinedTree, OrTree, QueryTree, SelectTree, SourceTree, UnionTree,
-};
+use aqe_trees::{CoreTree, JoinedTree, QueryTree, SelectTree, SourceTree, UnionTree};
 
 /// Whether there is no item.
 pub(crate) fn is_empty<T>(items: &[T]) -> bool
     ensures { result ≡ select.is_empty items.now }
 {
     items.split_first().is_none()
-}
-
-/// Whether the item of a select list calls no aggregate function.
-fn is_item_built(item: &ItemTree) -> bool
-    ensures { result ≡ spec.is_item_built item.now }
-{
-    match item {
-        ItemTree::All => true,
-        ItemTree::AllOf(_) => true,
-        ItemTree::One { value, .. } => !has_aggregate(value),
-    }
-}
-
-/// Whether no item of a select list calls an aggregate function.
-fn are_items_built(items: &[ItemTree]) -> bool
-    ensures { result ≡ list_all spec.is_item_built items.now }
-{
-    'items: for item in items {
-        if !is_item_built(item) {
-            return false;
-        }
-    }
-    true
-}
-
-/// Whether WHERE is missing, or calls no aggregate function.
-fn is_filter_built(filter: &Option<OrTree>) -> bool
-    ensures { result ≡ spec.is_filter_built filter.now }
-{
-    match filter {
-        Some(value) => !has_aggregate(value),
-        None => true,
-    }
 }
 
 /// Whether the query is carried out so far.
@@ -97,14 +60,8 @@ fn form_of_core(tree: &CoreTree) -> Option<Form>
 fn form_of_select(tree: &SelectTree) -> Option<Form>
     ensures { result ≡ first (of_select tree.now) }
 {
-    let (distinct, items, from, filter, group, having) = select_parts(tree);
-    distinct
-        .then_some(Form::Distinct)
-        .or((!are_items_built(items)).then_some(Form::Call))
-        .or(form_of_from(from))
-        .or((!is_filter_built(filter)).then_some(Form::Call))
-        .or((!is_empty(group)).then_some(Form::GroupBy))
-        .or(having.is_some().then_some(Form::Having))
+    let (distinct, _, from, _, _, _) = select_parts(tree);
+    distinct.then_some(Form::Distinct).or(form_of_from(from))
 }
 
 /// That of the items of FROM, between which a comma stands.

@@ -20,8 +20,4 @@ form_of_joined-returns t c = joined_first c.args.tree.now c.joined_parts.result.
 
 pub form_of_select-returns : goal.form_of_select-returns
 form_of_select-returns t c = select_first c.args.tree.now c.select_parts-distinct.result.0 c.select_parts-distinct.result.1.now c.select_parts-distinct.result.2.now c.select_parts-distinct.result.3.now c.select_parts-distinct.result.4.now c.select_parts-distinct.result.5.now
-    c.select_parts-distinct.ensures c.form_of_from.ensures c.then_some.ensures
-    (c.then_some-2.ensures ∙ ap (λ b. then_some (not b) form.Call) c.are_items_built.ensures) c.or.ensures c.or-2.ensures
-    (c.then_some-3.ensures ∙ ap (λ b. then_some (not b) form.Call) c.is_filter_built.ensures) c.or-3.ensures
-    (c.then_some-4.ensures ∙ ap (λ b. then_some (not b) form.GroupBy) c.is_empty.ensures) c.or-4.ensures
-    (c.then_some-5.ensures ∙ ap (λ b. then_some b form.Having) c.is_some.ensures) c.or-5.ensures
+    c.select_parts-distinct.ensures c.form_of_from.ensures c.then_some.ensures c.or.ensures
