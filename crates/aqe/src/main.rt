@@ -3,7 +3,9 @@
 
 use aqe_base::Status;
 use aqe_cli::{refused_words, run_words};
+use aqe_journal::Journal;
 use aqe_store::{FileStore, StdSink};
+use aqe_task::TaskRunner;
 use std::env::Env;
 use std::process::ExitCode;
 use std::{env, io};
@@ -34,6 +36,8 @@ fn main(rt: HostRuntime) -> ExitCode {
             &mut FileStore::new(&rt),
             &mut StdSink::new(rt.stdout()),
             &mut err,
+            &mut Journal::new(rt.alloc()),
+            &mut TaskRunner::new(rt.alloc()),
         ),
         Err(error) => refused_words(rt.alloc(), &mut err, no_words(error)),
     };

@@ -9,7 +9,7 @@ use Rattle.aqe_trees.specs.declared.statement.Stmt.{Stmt}
 use Rattle.aqe_course.specs.Command.{Command, AreWordsOf, command}
 use Rattle.aqe_course.specs.Course.{Query}
 use Rattle.aqe_course.specs.Opening.{IsOpened, IsNotOpened}
-use Rattle.aqe_course.specs.Ending.{Answers, Ends, IsAccepted, IsRefused, RefusesBehind, ScriptEnds, StopsAtScript}
+use Rattle.aqe_course.specs.Ending.{Answers, Ends, IsAccepted, IsRefused, Left, RefusesBehind, ScriptEnds, StopsAtScript}
 use Rattle.aqe_course.specs.Ending.Ends.{not_opened, not_had, carried_out}
 use Rattle.aqe_course.specs.Laws.{EndTells}
 use Rattle.aqe_course.specs.Statuses.{is_failure, is_refusal}
@@ -19,16 +19,16 @@ use Rattle.aqe_run.proofs.Writing.{writes_none}
 use Rattle.aqe_cli.specs.Headline.{AnswersAll, Completes, EndsSo, IsRefusedWith, IsTheRefusal, OfCommand}
 
 -- a script that was not opened, and one that was
-early : (files : Entries) (said : Command) (opened : Option Open) (old : Option (List ℕ)) (end : Status) → IsNotOpened files said end ⊎ StopsAtScript opened said end → Ends files said opened old old end
+early : (files : Entries) (said : Command) (opened : Option Open) (old : Left) (end : Status) → IsNotOpened files said end ⊎ StopsAtScript opened said end → Ends files said opened old old end
 early files said opened old end (inl h) = not_opened h (writes_none old)
 early files said opened old end (inr h) = not_had h (writes_none old)
 
-pub early_told : (told : Option Entries) (said : Command) (opened : Option Open) (old : Option (List ℕ)) (end : Status) → WhereTold told (λ files. IsNotOpened files said end ⊎ StopsAtScript opened said end)
+pub early_told : (told : Option Entries) (said : Command) (opened : Option Open) (old : Left) (end : Status) → WhereTold told (λ files. IsNotOpened files said end ⊎ StopsAtScript opened said end)
     → WhereTold told (λ files. Ends files said opened old old end)
 early_told told said opened old end h =
     told_one (λ files. IsNotOpened files said end ⊎ StopsAtScript opened said end) (λ files. Ends files said opened old old end) told (λ files p. early files said opened old end p) h
 
-pub carried_told : (told now : Option Entries) (said : Command) (opened : Option Open) (script : List Stmt) (old new : Option (List ℕ)) (end : Status) → KeepsFiles told now
+pub carried_told : (told now : Option Entries) (said : Command) (opened : Option Open) (script : List Stmt) (old new : Left) (end : Status) → KeepsFiles told now
     → WhereTold told (λ files. IsOpened files said script) → WhereTold now (λ files. ScriptEnds files script old new end) → WhereTold told (λ files. Ends files said opened old new end)
 carried_told told now said opened script old new end k o h =
     told_then (λ files. IsOpened files said script) (λ files. ScriptEnds files script old new end) (λ files. Ends files said opened old new end) told now k
@@ -46,25 +46,25 @@ of_said : (told : Option Entries) (words : List (List ℕ)) (path : List ℕ) (F
 of_said told words path F h f said k = subst (λ c. WhereTold told (λ files. F files c)) (sym (said_is words path said h k)) f
 
 -- what the end of the command's run tells
-tell : (told : Option Entries) (words : List (List ℕ)) (path : List ℕ) (opened : Option Open) (old new : Option (List ℕ)) (end : Status) (F : Entries → Command → Type 0) → AreWordsOf words (command path)
+tell : (told : Option Entries) (words : List (List ℕ)) (path : List ℕ) (opened : Option Open) (old new : Left) (end : Status) (F : Entries → Command → Type 0) → AreWordsOf words (command path)
     → WhereTold told (λ files. Ends files (command path) opened old new end) → ((files : Entries) → EndTells files (command path) old new end → F files (command path)) → OfCommand told words F
 tell told words path opened old new end F h e f =
     of_said told words path F h
     (told_one (λ files. Ends files (command path) opened old new end) (λ files. F files (command path)) told (λ files p. f files (ends_tell files (command path) opened old new end p)) e)
 
-pub ends_so : (told : Option Entries) (words : List (List ℕ)) (path : List ℕ) (opened : Option Open) (old new : Option (List ℕ)) (end : Status) → AreWordsOf words (command path)
+pub ends_so : (told : Option Entries) (words : List (List ℕ)) (path : List ℕ) (opened : Option Open) (old new : Left) (end : Status) → AreWordsOf words (command path)
     → WhereTold told (λ files. Ends files (command path) opened old new end) → EndsSo told words opened old new end
 ends_so told words path opened old new end h e = of_said told words path (λ files said. Ends files said opened old new end) h e
 
-pub answers_all : (told : Option Entries) (words : List (List ℕ)) (path : List ℕ) (opened : Option Open) (old new : Option (List ℕ)) (end : Status) → AreWordsOf words (command path)
+pub answers_all : (told : Option Entries) (words : List (List ℕ)) (path : List ℕ) (opened : Option Open) (old new : Left) (end : Status) → AreWordsOf words (command path)
     → WhereTold told (λ files. Ends files (command path) opened old new end) → end ≡ status.Done → AnswersAll told words old new
 answers_all told words path opened old new end h e d = tell told words path opened old new end (λ files said. Answers files said old new) h e (λ files t. t.done d)
 
-pub refused_with : (told : Option Entries) (words : List (List ℕ)) (path : List ℕ) (opened : Option Open) (old new : Option (List ℕ)) (end : Status) → AreWordsOf words (command path)
+pub refused_with : (told : Option Entries) (words : List (List ℕ)) (path : List ℕ) (opened : Option Open) (old new : Left) (end : Status) → AreWordsOf words (command path)
     → WhereTold told (λ files. Ends files (command path) opened old new end) → IsTrue (is_refusal end) → IsRefusedWith told words old new end
 refused_with told words path opened old new end h e r = tell told words path opened old new end (λ files said. RefusesBehind files said old new end) h e (λ files t. t.refused r)
 
-pub the_refusal : (told : Option Entries) (words : List (List ℕ)) (path : List ℕ) (opened : Option Open) (old new : Option (List ℕ)) (end : Status) → AreWordsOf words (command path)
+pub the_refusal : (told : Option Entries) (words : List (List ℕ)) (path : List ℕ) (opened : Option Open) (old new : Left) (end : Status) → AreWordsOf words (command path)
     → WhereTold told (λ files. Ends files (command path) opened old new end) → IsTheRefusal told words end
 the_refusal told words path opened old new end h e =
     tell told words path opened old new end (λ files said. (queries : List Query) (cause : Status) → IsRefused files said queries cause → (end ≡ cause) ⊎ IsTrue (is_failure end)) h e (λ files t. t.always)
@@ -93,7 +93,7 @@ finished : (end : Status) (f f' o o' : ℕ) → (end ≡ status.ReadFault → Ro
 finished end f f' o o' r w nr nw (inl d) = inl d
 finished end f f' o o' r w nr nw (inr h) = inr (memory_left end h (λ e. nr (r e)) (λ e. nw (w e)))
 
-pub completes : (told : Option Entries) (words : List (List ℕ)) (path : List ℕ) (opened : Option Open) (old new : Option (List ℕ)) (end : Status) (f f' o o' : ℕ) → AreWordsOf words (command path)
+pub completes : (told : Option Entries) (words : List (List ℕ)) (path : List ℕ) (opened : Option Open) (old new : Left) (end : Status) (f f' o o' : ℕ) → AreWordsOf words (command path)
     → WhereTold told (λ files. Ends files (command path) opened old new end) → (end ≡ status.ReadFault → Rose f f') → (end ≡ status.WriteFault → Rose o o')
     → Completes told words end (Rose f f') (Rose o o')
 completes told words path opened old new end f f' o o' h e r w =

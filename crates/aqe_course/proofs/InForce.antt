@@ -1,5 +1,5 @@
 -- The settings of a run and of its queries.
-use Rattle.std.proofs.Common.{◌≡◌, List, [], ◌∷◌, ◌++◌, refl, sym, ap, subst, lit≤, rules}
+use Rattle.std.proofs.Common.{◌≡◌, List, [], refl, sym, ap, subst, lit≤, rules}
 use Rattle.std.specs.Prelude.{All}
 use Rattle.std.proofs.lemmas.List.Elements.{All-nil, All-cons, All-append, All-weaker}
 use Rattle.aqe_settings.specs.declared.entry.Value.{Value}

@@ -22,7 +22,7 @@ use Rattle.aqe_rules.specs.Outcomes.{Check}
 use Rattle.aqe_rules.specs.Analysis.{Analysed, walk}
 use Rattle.aqe_sources.specs.Catalogs.{seen}
 use Rattle.aqe_built.specs.Built.{is_script_built}
-use Rattle.aqe_lists.specs.Forms.{scans}
+use Rattle.aqe_logical.specs.Nodes.{scans}
 use Rattle.aqe_course.specs.Command.{Command}
 use Rattle.aqe_course.specs.Loading.{AreLoaded, IsStopped}
 use Rattle.aqe_course.specs.Course.{State, nothing, Query, IsCarriedOut, IsRefusedStatement, Runs, of_create, of_check, of_load}

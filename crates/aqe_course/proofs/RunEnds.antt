@@ -21,7 +21,7 @@ use Rattle.aqe_rules.specs.Outcomes.{Outcome}
 use Rattle.aqe_rules.specs.Analysis.{Analysed, walk}
 use Rattle.aqe_sources.specs.Catalogs.{seen}
 use Rattle.aqe_built.specs.Built.{is_script_built, is_statement_built}
-use Rattle.aqe_lists.specs.Forms.{scans}
+use Rattle.aqe_logical.specs.Nodes.{scans}
 use Rattle.aqe_course.specs.Loading.{AreLoaded, IsAdded, IsStopped}
 use Rattle.aqe_course.specs.Loading.AreLoaded.{all, again, next}
 use Rattle.aqe_course.specs.Loading.IsStopped.{here, again as again_stops, next as next_stops}

@@ -1,6 +1,6 @@
 -- The tables that the plan of a query scans are those of the catalog.
-use Rattle.std.proofs.Common.{◌≡◌, ℕ, zero, suc, ◌<◌, List, [], ◌∷◌, ◌++◌, map, length, Some, arith, refl, ap, subst, ◌∙◌}
-use Rattle.std.specs.Prelude.{All, slice_get}
+use Rattle.std.proofs.Common.{◌≡◌, ℕ, zero, suc, ◌<◌, List, [], ◌∷◌, ◌++◌, map, length, Some, arith, refl, ap, sym, subst, ◌∙◌}
+use Rattle.std.specs.Prelude.{All, flat_map, slice_get}
 use Rattle.std.proofs.lemmas.List.{map-append}
 use Rattle.std.proofs.lemmas.List.Elements.{All-nil, All-cons, All-head, All-tail}
 use Rattle.aqe_values.specs.declared.schema.Field.{Field}
@@ -12,7 +12,8 @@ use Rattle.aqe_rules.specs.Analysis.{Analysed}
 use Rattle.aqe_laws.specs.Scans.{columns_of_tables, scanned_tables, HasItsColumns}
 use Rattle.aqe_laws.proofs.Scans.{of_the_catalog}
 use Rattle.aqe_sources.specs.Catalogs.{seen}
-use Rattle.aqe_lists.specs.Forms.{scans}
+use Rattle.aqe_logical.specs.Nodes.{nodes, scanned, scans}
+use Rattle.aqe_logical.proofs.Nodes.{scans_two}
 
 abbrev numbers_of : List (ℕ × List Field) → List ℕ
 numbers_of tables = map (λ table. table.0) tables
@@ -25,13 +26,15 @@ numbers_are (filtered condition child) = numbers_are child
 numbers_are (projected items schema child) = numbers_are child
 numbers_are (joined kind condition left right) = both left right (numbers_are left) (numbers_are right)
   where
-    both : (left right : Logical) → numbers_of (scanned_tables left) ≡ scans left → numbers_of (scanned_tables right) ≡ scans right → numbers_of (scanned_tables left ++ scanned_tables right) ≡ scans left ++ scans right
-    both left right h k = map-append (λ (table : ℕ × List Field). table.0) (scanned_tables left) (scanned_tables right) ∙ ap (λ l. l ++ numbers_of (scanned_tables right)) h ∙ ap (λ r. scans left ++ r) k
+    both : (left right : Logical) → numbers_of (scanned_tables left) ≡ scans left → numbers_of (scanned_tables right) ≡ scans right → numbers_of (scanned_tables left ++ scanned_tables right) ≡ flat_map scanned (nodes left ++ nodes right)
+    both left right h k =
+        map-append (λ (table : ℕ × List Field). table.0) (scanned_tables left) (scanned_tables right) ∙ ap (λ l. l ++ numbers_of (scanned_tables right)) h ∙ ap (λ r. scans left ++ r) k ∙ sym (scans_two left right)
 numbers_are (aggregated keys calls schema child) = numbers_are child
 numbers_are (united left right) = both left right (numbers_are left) (numbers_are right)
   where
-    both : (left right : Logical) → numbers_of (scanned_tables left) ≡ scans left → numbers_of (scanned_tables right) ≡ scans right → numbers_of (scanned_tables left ++ scanned_tables right) ≡ scans left ++ scans right
-    both left right h k = map-append (λ (table : ℕ × List Field). table.0) (scanned_tables left) (scanned_tables right) ∙ ap (λ l. l ++ numbers_of (scanned_tables right)) h ∙ ap (λ r. scans left ++ r) k
+    both : (left right : Logical) → numbers_of (scanned_tables left) ≡ scans left → numbers_of (scanned_tables right) ≡ scans right → numbers_of (scanned_tables left ++ scanned_tables right) ≡ flat_map scanned (nodes left ++ nodes right)
+    both left right h k =
+        map-append (λ (table : ℕ × List Field). table.0) (scanned_tables left) (scanned_tables right) ∙ ap (λ l. l ++ numbers_of (scanned_tables right)) h ∙ ap (λ r. scans left ++ r) k ∙ sym (scans_two left right)
 numbers_are (sorted keys child) = numbers_are child
 numbers_are (limited count skip child) = numbers_are child
 numbers_are (Empty schema) = refl

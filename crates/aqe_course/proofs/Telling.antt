@@ -30,7 +30,7 @@ use Rattle.aqe_course.specs.Opening.{IsNotOpened, IsRefusedSource, Needed, of_le
 use Rattle.aqe_course.specs.Opening.IsRefusedSource.{no_tokens, no_sentence, too_deep, not_built}
 use Rattle.aqe_course.specs.Opening.Needed.{there, missing, too_long}
 use Rattle.aqe_course.specs.Opening.IsNotOpened.{no_file, refused as refused_source}
-use Rattle.aqe_course.specs.Ending.{Answers, Ends, RefusesBehind, ScriptEnds}
+use Rattle.aqe_course.specs.Ending.{Left, Answers, Ends, RefusesBehind, ScriptEnds}
 use Rattle.aqe_course.specs.Ending.IsRefused.{at_once, on_the_way}
 use Rattle.aqe_course.specs.Ending.ScriptEnds.{done, refused, stopped, unwritten}
 use Rattle.aqe_course.specs.Ending.Ends.{not_opened, not_had, carried_out}
@@ -100,7 +100,7 @@ create_refuses (create.BadOption key) n = refl
 create_refuses create.TableExists n = refl
 create_refuses create.Memory n = absurd (n refl)
 
-statement_refuses : (files : Entries) (now : State) (one : Stmt) (end : Status) → IsRefusedStatement files now one end → IsTrue (is_refusal end)
+pub statement_refuses : (files : Entries) (now : State) (one : Stmt) (end : Status) → IsRefusedStatement files now one end → IsTrue (is_refusal end)
 statement_refuses files now (statement.CreateTable form) end (why, e, i) = is_one end _ i (create_refuses why (λ m. created_or_named now.catalog form (e ∙ ap Some m)))
 statement_refuses files now (statement.Set form) end h = absurd h
 statement_refuses files now (statement.Query tree) end (inl (check, e, i)) = is_one end _ i (check_refuses check)
@@ -112,7 +112,7 @@ refusals_are files said _ _ (on_the_way script rest one queries now end o r h) =
 
 -- An end is one of three.
 
-data Way (files : Entries) (said : Command) (old new : Option (List ℕ)) (end : Status) : Type 0 where
+data Way (files : Entries) (said : Command) (old new : Left) (end : Status) : Type 0 where
   well : Answers files said old new → end ≡ status.Done → Way files said old new end
   refuses : RefusesBehind files said old new end → Way files said old new end
   fails : IsTrue (is_failure end) → Way files said old new end
@@ -120,14 +120,14 @@ data Way (files : Entries) (said : Command) (old new : Option (List ℕ)) (end :
 failing : (x y : Status) → x ≡ y → IsTrue (is_failure y) → IsTrue (is_failure x)
 failing x y e h = subst (λ s. IsTrue (is_failure s)) (sym e) h
 
-script_way : (files : Entries) (said : Command) (script : List Stmt) (old new : Option (List ℕ)) (end : Status) → Rattle.aqe_course.specs.Opening.IsOpened files said script → ScriptEnds files script old new end → Way files said old new end
+script_way : (files : Entries) (said : Command) (script : List Stmt) (old new : Left) (end : Status) → Rattle.aqe_course.specs.Opening.IsOpened files said script → ScriptEnds files script old new end → Way files said old new end
 script_way files said script old new end o (done queries now r w e) = well (queries, record { script = script; opened = o; end = now; runs = r }, w) e
 script_way files said script old new end o (refused queries now one rest r h w) = refuses (queries, on_the_way script rest one queries now end o r h, w)
-script_way files said script old new end o (stopped queries now one rest r (inl e) w) = fails (failing end _ e refl)
-script_way files said script old new end o (stopped queries now one rest r (inr (e, h)) w) = fails (failing end _ e refl)
+script_way files said script old new end o (stopped queries now one rest r (inl e) mid w at) = fails (failing end _ e refl)
+script_way files said script old new end o (stopped queries now one rest r (inr (e, h)) mid w at) = fails (failing end _ e refl)
 script_way files said script old new end o (unwritten queries last now left r w e) = fails (failing end _ e refl)
 
-way : (files : Entries) (said : Command) (last : Option Open) (old new : Option (List ℕ)) (end : Status) → Ends files said last old new end → Way files said old new end
+way : (files : Entries) (said : Command) (last : Option Open) (old new : Left) (end : Status) → Ends files said last old new end → Way files said old new end
 way files said last old new end (not_opened h w) = refuses ([], at_once end h, w)
 way files said last old new end (not_had (inl e) w) = fails (failing end _ e refl)
 way files said last old new end (not_had (inr (e, h)) w) = fails (failing end _ e refl)
@@ -152,7 +152,7 @@ failure_refuses status.Aborted h k = cc h
 failure_refuses status.StageAborted h k = cc h
 failure_refuses status.Unfinished h k = cc h
 
-tells : (files : Entries) (said : Command) (old new : Option (List ℕ)) (end : Status) → Way files said old new end → EndTells files said old new end
+tells : (files : Entries) (said : Command) (old new : Left) (end : Status) → Way files said old new end → EndTells files said old new end
 tells files said old new end (well (queries, h, w) e) = record {
   done = λ _. (queries, h, w);
   refused = λ r. absurd (let no : IsTrue (is_refusal status.Done) = subst (λ s. IsTrue (is_refusal s)) e r in cc no);

@@ -26,7 +26,7 @@ use Rattle.aqe_rules.specs.declared.fault.AnalysisFault.TheVariants as fault
 use Rattle.aqe_rules.specs.Outcomes.{Check, refused, too_many_operators, too_many_columns}
 use Rattle.aqe_rules.specs.Analysis.{Analysed, walk}
 use Rattle.aqe_sources.specs.Catalogs.{seen}
-use Rattle.aqe_lists.specs.Forms.{scans}
+use Rattle.aqe_logical.specs.Nodes.{scans}
 use Rattle.aqe_course.specs.Loading.{AreLoaded, IsStopped}
 
 -- What a run has made by its statements so far: the tables that were created, those of them that are loaded, the settings in

@@ -6,11 +6,10 @@ use Rattle.aqe_store.specs.Files.{Entries}
 use Rattle.aqe_store.specs.Told.{Open}
 use Rattle.aqe_tables.specs.Loaded.{AreShaped, table_at}
 use Rattle.aqe_settings.specs.Ranges.{InRange}
-use Rattle.aqe_settings.specs.Values.{default_values}
 use Rattle.aqe_course.specs.Command.{Command}
 use Rattle.aqe_trees.specs.declared.statement.Stmt.{Stmt}
 use Rattle.aqe_course.specs.Course.{IsCarriedOut, Query, Runs, State, nothing}
-use Rattle.aqe_course.specs.Ending.{Answers, Ends, IsAccepted, IsDone, IsRefused, RefusesBehind}
+use Rattle.aqe_course.specs.Ending.{Answers, Ends, IsAccepted, IsDone, IsRefused, Left, RefusesBehind}
 use Rattle.aqe_course.specs.Statuses.{is_failure, is_refusal}
 
 -- the same plan under the same number, over the same loaded tables, with the same settings in force and the same events
@@ -93,12 +92,12 @@ RefusalsAreOfTheCourse = (files : Entries) (said : Command) (queries : List Quer
 -- What the end of a run tells. With status 0 all its queries are answered; with a refusal it is that of the course; where
 -- the course has a refusal it comes, unless something failed; where it has none, the run is carried out, unless something
 -- failed.
-pub record EndTells (files : Entries) (said : Command) (old new : Option (List ℕ)) (end : Status) : Type 0 where
+pub record EndTells (files : Entries) (said : Command) (old new : Left) (end : Status) : Type 0 where
   pub done : end ≡ status.Done → Answers files said old new
   pub refused : IsTrue (is_refusal end) → RefusesBehind files said old new end
   pub always : (queries : List Query) (cause : Status) → IsRefused files said queries cause → (end ≡ cause) ⊎ IsTrue (is_failure end)
   pub completes : IsAccepted files said → (end ≡ status.Done) ⊎ IsTrue (is_failure end)
 
 abbrev pub EndsTell : Type 0
-EndsTell = (files : Entries) (said : Command) (opened : Option Open) (old new : Option (List ℕ)) (end : Status)
+EndsTell = (files : Entries) (said : Command) (opened : Option Open) (old new : Left) (end : Status)
     → Ends files said opened old new end → EndTells files said old new end

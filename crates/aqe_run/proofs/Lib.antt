@@ -4,5 +4,6 @@ pub mod CourseFacts
 pub mod LoadFacts
 pub mod ScriptFacts
 pub mod OpeningFacts
-pub mod OneSource
 pub mod RunFacts
+pub mod Asking
+pub mod Printing

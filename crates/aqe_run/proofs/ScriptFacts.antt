@@ -18,16 +18,16 @@ use Rattle.aqe_script.specs.Statements.AreStatements.{finished, nothing as no_st
 use Rattle.aqe_built.specs.Built.{is_script_built, is_statement_built}
 use Rattle.aqe_course.specs.Course.{State, nothing, IsRefusedStatement}
 use Rattle.aqe_course.specs.Opening.{IsSource}
-use Rattle.aqe_course.specs.Ending.{ReadsTables, ScriptEnds}
+use Rattle.aqe_course.specs.Ending.{Left, ReadsTables, ScriptEnds, StopsAt}
 use Rattle.aqe_run.specs.Steps.{IsWriteExcuse, IsWritten, IsHalfWritten, IsCarriedTo}
 use Rattle.aqe_course.specs.Ending.ScriptEnds.{done}
 use Rattle.aqe_run.proofs.Told.{told_all, told_one, told_then, told_before}
 use Rattle.aqe_run.proofs.CourseFacts.{begun, carried_on, stopped}
 
-pub begun_told : (told : Option Entries) (script : List Stmt) (old : Option (List ℕ)) → WhereTold told (λ files. IsCarriedTo files script nothing script old old)
+pub begun_told : (told : Option Entries) (script : List Stmt) (old : Left) → WhereTold told (λ files. IsCarriedTo files script nothing script old old)
 begun_told told script old = told_all (λ files. IsCarriedTo files script nothing script old old) told (λ files. begun files script old)
 
-pub carried_told : (told now : Option Entries) (script left rest : List Stmt) (made next : State) (one : Stmt) (old mid new : Option (List ℕ)) → KeepsFiles told now → left ≡ one ∷ rest
+pub carried_told : (told now : Option Entries) (script left rest : List Stmt) (made next : State) (one : Stmt) (old mid new : Left) → KeepsFiles told now → left ≡ one ∷ rest
     → WhereTold told (λ files. IsCarriedTo files script made left old mid) → WhereTold now (λ files. IsWritten files made one next mid new)
     → WhereTold told (λ files. IsCarriedTo files script next rest old new)
 carried_told told now script left rest made next one old mid new k e h w =
@@ -53,14 +53,16 @@ is_unwritten status.Unfinished = inr (λ e. cc e)
 is_unwritten status.Memory = inr (λ e. cc e)
 is_unwritten status.NotBuilt = inr (λ e. cc e)
 
-pub stopped_told : (told now : Option Entries) (script left rest : List Stmt) (made : State) (one : Stmt) (end : Status) (old mid new : Option (List ℕ)) → KeepsFiles told now → left ≡ one ∷ rest
+pub stopped_told : (told now : Option Entries) (script left rest : List Stmt) (made : State) (one : Stmt) (end : Status) (old mid new : Left) → KeepsFiles told now → left ≡ one ∷ rest
     → WhereTold told (λ files. IsCarriedTo files script made left old mid) → WhereTold now (λ files. IsRefusedStatement files made one end ⊎ IsWriteExcuse end)
-    → (end ≡ status.ReadFault → ReadsTables made one) → ((end ≡ status.WriteFault → ⊥) → new ≡ mid) → (end ≡ status.WriteFault → WhereTold now (λ files. IsHalfWritten files made one mid new))
+    → (end ≡ status.ReadFault → ReadsTables made one) → ((end ≡ status.WriteFault → ⊥) → WhereTold now (λ files. StopsAt files made one end mid new))
+    → (end ≡ status.WriteFault → WhereTold now (λ files. IsHalfWritten files made one mid new))
     → WhereTold told (λ files. ScriptEnds files script old new end)
-stopped_told None now script left rest made one end old mid new k e h why reads silent half = tt
-stopped_told (Some files) now script left rest made one end old mid new k e h why reads silent half =
+stopped_told None now script left rest made one end old mid new k e h why reads stops half = tt
+stopped_told (Some files) now script left rest made one end old mid new k e h why reads stops half =
     stopped files script rest made one end old mid new (subst (λ l. IsCarriedTo files script made l old mid) e h)
-    (told_before (λ f. IsRefusedStatement f made one end ⊎ IsWriteExcuse end) (Some files) now k why) reads silent
+    (told_before (λ f. IsRefusedStatement f made one end ⊎ IsWriteExcuse end) (Some files) now k why) reads
+    (λ n. told_before (λ f. StopsAt f made one end mid new) (Some files) now k (stops n))
     (λ w. told_before (λ f. IsHalfWritten f made one mid new) (Some files) now k (half w)) (is_unwritten end)
 
 -- the first of some statements that are carried out so far, and the others
@@ -100,7 +102,7 @@ few_statements source script h =
     omega (arith, parts, cuts, some, tokens)
 
 -- a script that was carried out to its end
-pub script_done : (told : Option Entries) (script : List Stmt) (old new : Option (List ℕ)) → WhereTold told (λ files. (end : State) × IsCarriedTo files script end [] old new)
+pub script_done : (told : Option Entries) (script : List Stmt) (old new : Left) → WhereTold told (λ files. (end : State) × IsCarriedTo files script end [] old new)
     → WhereTold told (λ files. ScriptEnds files script old new status.Done)
 script_done told script old new h =
     told_one (λ files. (end : State) × IsCarriedTo files script end [] old new) (λ files. ScriptEnds files script old new status.Done) told

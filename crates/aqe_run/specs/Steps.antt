@@ -9,6 +9,8 @@ use Rattle.aqe_store.specs.Files.{Entries, IsHeld}
 use Rattle.aqe_store.specs.Reading.{IsLonger}
 use Rattle.aqe_store.specs.Sink.{AppendsFront}
 use Rattle.aqe_store.specs.Told.{Open, WhereTold}
+use Rattle.aqe_logical.specs.declared.plan.Logical.{Logical}
+use Rattle.aqe_logical.specs.Nodes.{scans}
 use Rattle.aqe_trees.specs.declared.query.QueryTree.{QueryTree}
 use Rattle.aqe_trees.specs.declared.statement.Stmt.{Stmt}
 use Rattle.aqe_settings.specs.Values.{values_of}
@@ -17,9 +19,11 @@ use Rattle.aqe_tables.specs.declared.fault.LoadFault.{LoadFault}
 use Rattle.aqe_tables.specs.Steps.{IsStep}
 use Rattle.aqe_tables.specs.Loaded.{Slots, IsLoaded, table_at}
 use Rattle.aqe_course.specs.Command.{command}
-use Rattle.aqe_course.specs.Course.{State, state, nothing, Query, IsAnswered, IsCarriedOut, IsRefusedStatement, Runs, of_load}
+use Rattle.aqe_course.specs.Course.{State, state, nothing, Query, query, IsAnswered, IsCarriedOut, IsRefusedStatement, Runs, of_load}
 use Rattle.aqe_course.specs.Loading.{AreLoaded, IsAdded, IsRefusedTable, IsStopped}
-use Rattle.aqe_course.specs.Ending.{IsTextOf, StopsAtScript, Writes}
+use Rattle.aqe_course.specs.Ending.{Left, StopsAt, StopsAtScript, Writes}
+use Rattle.aqe_answer.specs.Answer.{IsPrinted, IsRecorded}
+use Rattle.aqe_journal.specs.declared.record.QueryRecord.{QueryRecord}
 use Rattle.aqe_course.specs.Opening.{IsNotOpened}
 use Rattle.aqe_course.specs.Statuses.{Side, course, store, memory, sink, side_of}
 use Rattle.aqe_run.specs.declared.made.Made.{Made}
@@ -87,31 +91,43 @@ pub record IsNotNext (files : Entries) (catalog : List CatalogTable) (before : S
 abbrev pub AreRefused : Entries → List CatalogTable → Slots → List ℕ → Status → Type 0
 AreRefused files catalog before numbers end = (why : LoadFault) × IsStopped files catalog before numbers why × (end ≡ of_load why)
 
--- a query is carried out, and has this text
-pub record IsQueried (files : Entries) (now : State) (tree : QueryTree) (next : State) (text : List ℕ) : Type 0 where
+-- a query is carried out, its record is in the journal, and it has this text
+pub record IsQueried (files : Entries) (now : State) (tree : QueryTree) (next : State) (old new : List QueryRecord) (text : List ℕ) : Type 0 where
   pub query : Query
   pub is : IsAnswered files now tree next (query ∷ [])
-  pub has : IsTextOf query text
+  pub printed : IsPrinted query old new text
 
--- a statement is carried out, and its texts are written
-pub record IsWritten (files : Entries) (now : State) (one : Stmt) (next : State) (old new : Option (List ℕ)) : Type 0 where
+-- memory is wanted behind the record of a query
+pub record IsRecordedOnly (files : Entries) (now : State) (tree : QueryTree) (end : Status) (old new : List QueryRecord) : Type 0 where
+  pub memory : end ≡ status.Memory
+  pub next : State
+  pub query : Query
+  pub is : IsAnswered files now tree next (query ∷ [])
+  pub recorded : IsRecorded query old new
+
+-- a query that is not answered leaves the journal as it was, or has its record there where memory is wanted
+abbrev pub IsUnanswered : Entries → State → QueryTree → Status → List QueryRecord → List QueryRecord → Type 0
+IsUnanswered files now tree end old new = (new ≡ old) ⊎ IsRecordedOnly files now tree end old new
+
+-- a statement is carried out, and its records and texts are there
+pub record IsWritten (files : Entries) (now : State) (one : Stmt) (next : State) (old new : Left) : Type 0 where
   pub answered : List Query
   pub is : IsCarriedOut files now one next answered
   pub writes : Writes old new answered
 
 -- a query was carried out, and a front of its text was written
-pub record IsHalfWritten (files : Entries) (now : State) (one : Stmt) (old new : Option (List ℕ)) : Type 0 where
+pub record IsHalfWritten (files : Entries) (now : State) (one : Stmt) (old new : Left) : Type 0 where
   pub next : State
   pub query : Query
   pub is : IsCarriedOut files now one next (query ∷ [])
   pub text : List ℕ
-  pub has : IsTextOf query text
-  pub front : AppendsFront old new text
+  pub printed : IsPrinted query old.journal new.journal text
+  pub front : AppendsFront old.taken new.taken text
 
--- a script was carried out so far, and its texts are written
-pub record IsCarriedTo (files : Entries) (script : List Stmt) (now : State) (left : List Stmt) (old new : Option (List ℕ)) : Type 0 where
+-- a script was carried out so far, and its records and texts are there
+pub record IsCarriedTo (files : Entries) (script : List Stmt) (now : State) (rest : List Stmt) (old new : Left) : Type 0 where
   pub queries : List Query
-  pub runs : Runs files nothing script queries now left
+  pub runs : Runs files nothing script queries now rest
   pub writes : Writes old new queries
 
 -- The words of clauses: the same of whatever store and sink, where the store tells its files.
@@ -129,6 +145,11 @@ IsRunEnd files faults misses old new end = IsRunStep {A = Unit {0}} files faults
 abbrev pub LoadsAll : Option Entries → List CatalogTable → Slots → List ℕ → Slots → Type 0
 LoadsAll told catalog before numbers after = WhereTold told (λ files. AreLoaded files catalog before numbers after)
 
+-- A query that was not answered, once its tables may have been loaded: the journal stays, or memory was wanted behind its record.
+abbrev pub IsBehind : Option Entries → State → Logical → Slots → List QueryRecord → List QueryRecord → Status → Type 0
+IsBehind told now plan after old new end =
+    (new ≡ old) ⊎ ((end ≡ status.Memory) × LoadsAll told now.catalog now.tables (scans plan) after × IsRecorded (query now.answered plan after now.settings) old new)
+
 -- tables are refused, if nothing else is in the way
 abbrev pub RefusesTables : Option Entries → List CatalogTable → Slots → List ℕ → Status → Type 0
 RefusesTables told catalog before numbers end = WhereTold told (λ files. AreRefused files catalog before numbers end ⊎ IsExcuse end)
@@ -140,14 +161,18 @@ Refuses told now one end = WhereTold told (λ files. IsRefusedStatement files no
 abbrev pub RefusesToWrite : Option Entries → State → Stmt → Status → Type 0
 RefusesToWrite told now one end = WhereTold told (λ files. IsRefusedStatement files now one end ⊎ IsWriteExcuse end)
 
-abbrev pub WritesAll : Option Entries → State → Stmt → State → Option (List ℕ) → Option (List ℕ) → Type 0
+abbrev pub WritesAll : Option Entries → State → Stmt → State → Left → Left → Type 0
 WritesAll told now one next old new = WhereTold told (λ files. IsWritten files now one next old new)
 
-abbrev pub WritesHalf : Option Entries → State → Stmt → Option (List ℕ) → Option (List ℕ) → Type 0
+-- where a statement stops the run, what it leaves
+abbrev pub StopsThere : Option Entries → State → Stmt → Status → Left → Left → Type 0
+StopsThere told now one end old new = WhereTold told (λ files. StopsAt files now one end old new)
+
+abbrev pub WritesHalf : Option Entries → State → Stmt → Left → Left → Type 0
 WritesHalf told now one old new = WhereTold told (λ files. IsHalfWritten files now one old new)
 
 -- all statements of a script are carried out
-abbrev pub CarriesOutAll : Option Entries → List Stmt → Option (List ℕ) → Option (List ℕ) → Type 0
+abbrev pub CarriesOutAll : Option Entries → List Stmt → Left → Left → Type 0
 CarriesOutAll told script old new = WhereTold told (λ files. (end : State) × IsCarriedTo files script end [] old new)
 
 -- there is no script, for its cause; or its file is not had

@@ -6,24 +6,32 @@ ghost use Rattle.aqe_trees.specs.declared.statement.Stmt.TheVariants as stmt;
 ghost use Rattle.aqe_store.specs.Told.{WhereTold};
 ghost use Rattle.aqe_built.specs.Built.{is_query_built, is_statement_built};
 ghost use Rattle.aqe_rules.specs.Analysis.{Analysed};
-ghost use Rattle.aqe_lists.specs.Forms.{AreScansLoaded, IsNarrow, IsOfOneSource, scans as scans_of};
+ghost use Rattle.aqe_logical.specs.Nodes.{scans as scans_of};
+ghost use Rattle.aqe_logical.specs.WellFormed.{WellFormed};
+ghost use Rattle.aqe_laws.specs.Scans.{ScansHaveTheirColumns};
+ghost use Rattle.aqe_planner.specs.Built.{IsBuilt};
+ghost use Rattle.aqe_estimates.specs.LoadedTables.{AreScansLoaded};
+ghost use Rattle.aqe_session.specs.Query.{CanBeAsked};
+ghost use Rattle.aqe_answer.specs.Answer.{HasRun, IsPrinted, MayBeRecorded};
 ghost use Rattle.aqe_sources.specs.Catalogs.{seen};
-ghost use Rattle.aqe_settings.specs.declared.entry.Value.{Value};
+ghost use Rattle.aqe_settings.specs.Ranges.{InRange};
 ghost use Rattle.aqe_settings.specs.Values.{values_of};
 ghost use Rattle.aqe_course.specs.Course.{IsCreated, IsNotAnalysed, IsNotCreated, of_create, of_fault, query as query_of};
 ghost use Rattle.aqe_course.specs.Laws.{HasShapedTables};
-ghost use Rattle.aqe_course.specs.Ending.{IsTextOf, ReadsTables};
-ghost use Rattle.aqe_run.specs.Steps.{AreMissing, IsQueried, IsRunStep, IsSinkStep, LoadsAll, Refuses, RefusesTables, RefusesToWrite, WritesAll, WritesHalf, done_of, is_statement_end, is_step_end, state_of};
+ghost use Rattle.aqe_course.specs.Ending.{ReadsTables, left};
+ghost use Rattle.aqe_run.specs.Steps.{AreMissing, IsBehind, IsQueried, IsRunStep, IsSinkStep, IsUnanswered, LoadsAll, Refuses, RefusesTables, RefusesToWrite, StopsThere, WritesAll, WritesHalf, done_of, is_statement_end, is_step_end, state_of};
 
 use crate::loading::load_all;
 use crate::made::Made;
 use aqe_analysis::{AnalysisFault, analyse};
-use aqe_base::{AnalysisKind, Bytes, LimitKind, Memory, Status};
-use aqe_lists::{rows_of, scans};
-use aqe_logical::{Logical, schema_of};
+use aqe_answer::answer;
+use aqe_base::{AnalysisKind, Bytes, LimitKind, Status};
+use aqe_journal::Journal;
+use aqe_logical::{Logical, scans};
 use aqe_store::{Sink, Store, write_all};
-use aqe_tables::{CreateFault, Tables};
-use aqe_texts::{FaultPlace, result_text};
+use aqe_tables::CreateFault;
+use aqe_task::Runner;
+use aqe_texts::FaultPlace;
 use aqe_trees::{QueryTree, Stmt, TableForm};
 use std::alloc::Global;
 
@@ -58,6 +66,8 @@ fn created(form: &TableForm, made: &mut Made, place: &mut FaultPlace) -> Result<
     requires shaped { HasShapedTables (state_of made.old) }
     ensures created { OnOk result (IsCreated (state_of made.old) form.now (state_of made.new) []) }
     ensures shaped { HasShapedTables (state_of made.new) }
+    ensures in_force { made.new.settings ≡ made.old.settings }
+    ensures uncounted { made.new.answered ≡ made.old.answered }
     ensures few { done_of made.new ≤ done_of made.old + 1 }
     ensures refused { IfErr result (λ end. IsNotCreated (state_of made.old) form.now end ⊎ (end ≡ status.Memory)) }
     ensures named { IfErr result (λ end. IsTrue (is_step_end end)) }
@@ -102,18 +112,6 @@ fn plan_of(
     }
 }
 
-/// The printed answer of a plan over the tables.
-fn printed(alloc: Global, plan: &Logical, tables: &Tables) -> Result<Bytes, Memory>
-    requires form { IsOfOneSource plan.now }
-    requires narrow { IsNarrow plan.now }
-    requires loaded { AreScansLoaded tables.now plan.now }
-    ensures { IfOk result (λ text. (number : ℕ) (settings : List Value) → IsTextOf (query_of number plan.now tables.now settings) text) }
-{
-    let rows = rows_of(alloc, plan, tables)?;
-    let schema = schema_of(alloc, plan)?;
-    result_text(alloc, &schema, &rows)
-}
-
 /// Loads the tables that a plan scans.
 fn load_scans<S: Store>(
     alloc: Global,
@@ -147,33 +145,29 @@ fn load_scans<S: Store>(
     )
 }
 
-/// The printed answer of a plan, whose tables are loaded first.
-fn evaluated<S: Store>(
+/// Runs a query whose tables are loaded, and counts it.
+fn printed<R: Runner>(
     alloc: Global,
-    plan: &Logical,
+    plan: Logical,
     made: &mut Made,
-    store: &mut S,
-    place: &mut FaultPlace,
+    journal: &mut Journal,
+    runner: &mut R,
 ) -> Result<Bytes, Status>
-    requires form { IsOfOneSource plan.now }
-    requires narrow { IsNarrow plan.now }
+    requires query { CanBeAsked plan made.old.tables }
+    requires range { InRange (values_of made.old.settings) }
     requires few { made.old.answered < 2 ^ 32 - 1 }
-    requires within { All (λ n. n < length made.old.catalog) (scans_of plan.now) }
-    requires shaped { HasShapedTables (state_of made.old) }
-    ensures loaded { IfOk result (λ text. LoadsAll (S.files store.old) made.old.catalog made.old.tables (scans_of plan.now) made.new.tables) }
-    ensures shaped { HasShapedTables (state_of made.new) }
-    ensures text { IfOk result (λ text. IsTextOf (query_of made.old.answered plan.now made.new.tables (values_of made.old.settings)) text) }
+    requires counted { made.old.answered ≡ length journal.old }
+    ensures text { IfOk result (IsPrinted (query_of made.old.answered plan made.old.tables (values_of made.old.settings)) journal.old journal.new) }
+    ensures behind { OnErr result (MayBeRecorded (query_of made.old.answered plan made.old.tables (values_of made.old.settings)) journal.old journal.new) }
     ensures kept { made.new.catalog ≡ made.old.catalog }
+    ensures tables { made.new.tables ≡ made.old.tables }
     ensures in_force { made.new.settings ≡ made.old.settings }
     ensures counted { IfOk result (λ text. made.new.answered ≡ made.old.answered + 1) }
     ensures uncounted { OnErr result (made.new.answered ≡ made.old.answered) }
-    ensures refused { IfErr result (RefusesTables (S.files store.old) made.old.catalog made.old.tables (scans_of plan.now)) }
-    ensures reads { result ≡ Err status.ReadFault → AreMissing made.old.tables (scans_of plan.now) }
-    ensures named { IfErr result (λ end. IsTrue (is_step_end end)) }
-    ensures step { IsRunStep S.files S.faults S.misses store.old store.new result }
+    ensures memory { IfErr result (λ end. end ≡ status.Memory) }
+    ensures ran { OnOk result (HasRun journal.old journal.new (R.ran runner.old) (R.ran runner.new)) }
 {
-    load_scans(alloc, plan, made, store, place)?;
-    match printed(alloc, plan, &made.tables) {
+    match answer(alloc, plan, &made.tables, &made.settings, journal, runner) {
         Ok(text) => {
             made.answered += 1;
             Ok(text)
@@ -182,60 +176,115 @@ fn evaluated<S: Store>(
     }
 }
 
+/// The printed answer of a plan, whose tables are loaded first.
+fn evaluated<S: Store, R: Runner>(
+    alloc: Global,
+    plan: Logical,
+    made: &mut Made,
+    store: &mut S,
+    journal: &mut Journal,
+    runner: &mut R,
+    place: &mut FaultPlace,
+) -> Result<Bytes, Status>
+    requires form { IsBuilt plan }
+    requires formed { WellFormed plan }
+    requires columns { ScansHaveTheirColumns (seen made.old.catalog) plan }
+    requires range { InRange (values_of made.old.settings) }
+    requires few { made.old.answered < 2 ^ 32 - 1 }
+    requires counted { made.old.answered ≡ length journal.old }
+    requires within { All (λ n. n < length made.old.catalog) (scans_of plan) }
+    requires shaped { HasShapedTables (state_of made.old) }
+    ensures loaded { IfOk result (λ text. LoadsAll (S.files store.old) made.old.catalog made.old.tables (scans_of plan) made.new.tables) }
+    ensures shaped { HasShapedTables (state_of made.new) }
+    ensures text { IfOk result (IsPrinted (query_of made.old.answered plan made.new.tables (values_of made.old.settings)) journal.old journal.new) }
+    ensures behind { IfErr result (IsBehind (S.files store.old) (state_of made.old) plan made.new.tables journal.old journal.new) }
+    ensures kept { made.new.catalog ≡ made.old.catalog }
+    ensures in_force { made.new.settings ≡ made.old.settings }
+    ensures counted { IfOk result (λ text. made.new.answered ≡ made.old.answered + 1) }
+    ensures uncounted { OnErr result (made.new.answered ≡ made.old.answered) }
+    ensures refused { IfErr result (RefusesTables (S.files store.old) made.old.catalog made.old.tables (scans_of plan)) }
+    ensures reads { result ≡ Err status.ReadFault → AreMissing made.old.tables (scans_of plan) }
+    ensures named { IfErr result (λ end. IsTrue (is_step_end end)) }
+    ensures ran { result ≢ Err status.Memory → HasRun journal.old journal.new (R.ran runner.old) (R.ran runner.new) }
+    ensures step { IsRunStep S.files S.faults S.misses store.old store.new result }
+{
+    match load_scans(alloc, &plan, made, store, place) {
+        Ok(()) => printed(alloc, plan, made, journal, runner),
+        Err(end) => Err(end),
+    }
+}
+
 /// The printed answer of a query.
-fn answered<S: Store>(
+fn answered<S: Store, R: Runner>(
     alloc: Global,
     tree: &QueryTree,
     made: &mut Made,
     store: &mut S,
+    journal: &mut Journal,
+    runner: &mut R,
     place: &mut FaultPlace,
 ) -> Result<Bytes, Status>
     requires built { IsTrue (is_query_built tree.now) }
+    requires range { InRange (values_of made.old.settings) }
     requires few { made.old.answered < 2 ^ 32 - 1 }
+    requires counted { made.old.answered ≡ length journal.old }
     requires shaped { HasShapedTables (state_of made.old) }
     ensures shaped { HasShapedTables (state_of made.new) }
     ensures text { IfOk result (λ text. WhereTold (S.files store.old)
-        (λ files. IsQueried files (state_of made.old) tree.now (state_of made.new) text)) }
+        (λ files. IsQueried files (state_of made.old) tree.now (state_of made.new) journal.old journal.new text)) }
+    ensures behind { IfErr result (λ end. WhereTold (S.files store.old)
+        (λ files. IsUnanswered files (state_of made.old) tree.now end journal.old journal.new)) }
     ensures kept { made.new.catalog ≡ made.old.catalog }
+    ensures in_force { made.new.settings ≡ made.old.settings }
     ensures few { made.new.answered ≤ made.old.answered + 1 }
+    ensures counted { OnOk result (made.new.answered ≡ length journal.new) }
     ensures refused { IfErr result (Refuses (S.files store.old) (state_of made.old) (stmt.Query tree.now)) }
     ensures reads { result ≡ Err status.ReadFault → ReadsTables (state_of made.old) (stmt.Query tree.now) }
     ensures named { IfErr result (λ end. IsTrue (is_step_end end)) }
+    ensures ran { result ≢ Err status.Memory → HasRun journal.old journal.new (R.ran runner.old) (R.ran runner.new) }
     ensures step { IsRunStep S.files S.faults S.misses store.old store.new result }
 {
     match plan_of(alloc, tree, made, place) {
-        Ok(plan) => evaluated(alloc, &plan, made, store, place),
+        Ok(plan) => evaluated(alloc, plan, made, store, journal, runner, place),
         Err(end) => Err(end),
     }
 }
 
 /// Carries out a query, and writes its answer.
-fn query<S: Store, O: Sink>(
+fn query<S: Store, O: Sink, R: Runner>(
     alloc: Global,
     tree: &QueryTree,
     made: &mut Made,
     store: &mut S,
     out: &mut O,
+    journal: &mut Journal,
+    runner: &mut R,
     place: &mut FaultPlace,
 ) -> Result<(), Status>
     requires built { IsTrue (is_query_built tree.now) }
+    requires range { InRange (values_of made.old.settings) }
     requires few { made.old.answered < 2 ^ 32 - 1 }
+    requires counted { made.old.answered ≡ length journal.old }
     requires shaped { HasShapedTables (state_of made.old) }
     ensures shaped { HasShapedTables (state_of made.new) }
-    ensures done { OnOk result (WritesAll (S.files store.old) (state_of made.old)
-        (stmt.Query tree.now) (state_of made.new) (O.taken out.old) (O.taken out.new)) }
+    ensures done { OnOk result (WritesAll (S.files store.old) (state_of made.old) (stmt.Query tree.now) (state_of made.new)
+        (left journal.old (O.taken out.old)) (left journal.new (O.taken out.new))) }
     ensures kept { made.new.catalog ≡ made.old.catalog }
+    ensures in_force { made.new.settings ≡ made.old.settings }
     ensures few { made.new.answered ≤ made.old.answered + 1 }
+    ensures counted { OnOk result (made.new.answered ≡ length journal.new) }
     ensures refused { IfErr result (RefusesToWrite (S.files store.old) (state_of made.old) (stmt.Query tree.now)) }
     ensures reads { result ≡ Err status.ReadFault → ReadsTables (state_of made.old) (stmt.Query tree.now) }
     ensures named { IfErr result (λ end. IsTrue (is_statement_end end)) }
-    ensures silent { IfErr result (λ end. end ≢ status.WriteFault → O.taken out.new ≡ O.taken out.old) }
-    ensures front { result ≡ Err status.WriteFault
-        → WritesHalf (S.files store.old) (state_of made.old) (stmt.Query tree.now) (O.taken out.old) (O.taken out.new) }
+    ensures stops { IfErr result (λ end. end ≢ status.WriteFault → StopsThere (S.files store.old) (state_of made.old) (stmt.Query tree.now) end
+        (left journal.old (O.taken out.old)) (left journal.new (O.taken out.new))) }
+    ensures front { result ≡ Err status.WriteFault → WritesHalf (S.files store.old) (state_of made.old) (stmt.Query tree.now)
+        (left journal.old (O.taken out.old)) (left journal.new (O.taken out.new)) }
+    ensures ran { result ≢ Err status.Memory → HasRun journal.old journal.new (R.ran runner.old) (R.ran runner.new) }
     ensures sink { IsSinkStep status.WriteFault (O.faults out.old) (O.faults out.new) result }
     ensures step { IsRunStep S.files S.faults S.misses store.old store.new result }
 {
-    let text = answered(alloc, tree, made, store, place)?;
+    let text = answered(alloc, tree, made, store, journal, runner, place)?;
     match write_all(out, text.slice()) {
         Ok(()) => Ok(()),
         Err(_) => Err(Status::WriteFault),
@@ -243,31 +292,41 @@ fn query<S: Store, O: Sink>(
 }
 
 /// Carries out a statement, and writes the answer of a query.
-pub(crate) fn carried_out<S: Store, O: Sink>(
+pub(crate) fn carried_out<S: Store, O: Sink, R: Runner>(
     alloc: Global,
     one: &Stmt,
     made: &mut Made,
     store: &mut S,
     out: &mut O,
+    journal: &mut Journal,
+    runner: &mut R,
     place: &mut FaultPlace,
 ) -> Result<(), Status>
     requires built { IsTrue (is_statement_built one.now) }
+    requires range { InRange (values_of made.old.settings) }
     requires few { done_of made.old < 2 ^ 32 - 1 }
+    requires counted { made.old.answered ≡ length journal.old }
     requires shaped { HasShapedTables (state_of made.old) }
     ensures shaped { HasShapedTables (state_of made.new) }
-    ensures done { OnOk result (WritesAll (S.files store.old) (state_of made.old) one.now (state_of made.new) (O.taken out.old) (O.taken out.new)) }
+    ensures done { OnOk result (WritesAll (S.files store.old) (state_of made.old) one.now (state_of made.new)
+        (left journal.old (O.taken out.old)) (left journal.new (O.taken out.new))) }
+    ensures in_force { made.new.settings ≡ made.old.settings }
     ensures few { done_of made.new ≤ done_of made.old + 1 }
+    ensures counted { OnOk result (made.new.answered ≡ length journal.new) }
     ensures refused { IfErr result (RefusesToWrite (S.files store.old) (state_of made.old) one.now) }
     ensures reads { result ≡ Err status.ReadFault → ReadsTables (state_of made.old) one.now }
     ensures named { IfErr result (λ end. IsTrue (is_statement_end end)) }
-    ensures silent { IfErr result (λ end. end ≢ status.WriteFault → O.taken out.new ≡ O.taken out.old) }
-    ensures front { result ≡ Err status.WriteFault → WritesHalf (S.files store.old) (state_of made.old) one.now (O.taken out.old) (O.taken out.new) }
+    ensures stops { IfErr result (λ end. end ≢ status.WriteFault → StopsThere (S.files store.old) (state_of made.old) one.now end
+        (left journal.old (O.taken out.old)) (left journal.new (O.taken out.new))) }
+    ensures front { result ≡ Err status.WriteFault → WritesHalf (S.files store.old) (state_of made.old) one.now
+        (left journal.old (O.taken out.old)) (left journal.new (O.taken out.new)) }
+    ensures ran { result ≢ Err status.Memory → HasRun journal.old journal.new (R.ran runner.old) (R.ran runner.new) }
     ensures sink { IsSinkStep status.WriteFault (O.faults out.old) (O.faults out.new) result }
     ensures step { IsRunStep S.files S.faults S.misses store.old store.new result }
 {
     match one {
         Stmt::CreateTable(form) => created(form, made, place),
-        Stmt::Query(tree) => query(alloc, tree, made, store, out, place),
+        Stmt::Query(tree) => query(alloc, tree, made, store, out, journal, runner, place),
         Stmt::Set(_) => unreachable!(),
     }
 }
