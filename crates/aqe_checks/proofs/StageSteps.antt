@@ -17,7 +17,7 @@ use Rattle.aqe_logical.specs.WellFormed.{HaveWidth}
 use Rattle.aqe_tables.specs.declared.catalog.CatalogTable.{CatalogTable}
 use Rattle.aqe_tables.specs.declared.loaded.Table.{Table}
 use Rattle.aqe_tables.specs.Loaded.{AreShaped, IsLoaded, Slots, table_at}
-use Rattle.aqe_lists.specs.LoadedTables.{tables_of}
+use Rattle.aqe_estimates.specs.LoadedTables.{tables_of}
 use Rattle.aqe_partial.specs.PartialRows.{joined_parts}
 use Rattle.aqe_places.specs.Places.{part_of}
 use Rattle.aqe_physical.specs.declared.target.Target.TheVariants.{Hash, Range, Single, Broadcast}

@@ -2,7 +2,7 @@
 use Rattle.std.specs.Prelude.{ℕ, ◌≡◌, ◌≤◌, ◌<◌, List, [], All, Some}
 use Rattle.aqe_blocks.specs.Kept.{AllKept, HaveCells, kept_of, output_at}
 use Rattle.aqe_tables.specs.Loaded.{Slots, IsLoaded}
-use Rattle.aqe_lists.specs.LoadedTables.{tables_of}
+use Rattle.aqe_estimates.specs.LoadedTables.{tables_of}
 use Rattle.aqe_logical.specs.Answers.{Row, Tables, table_rows}
 use Rattle.aqe_logical.specs.WellFormed.{HaveWidth}
 use Rattle.aqe_physical.specs.declared.target.StageKind.{StageKind}

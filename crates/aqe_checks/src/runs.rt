@@ -2,9 +2,11 @@
 
 use aqe_base::{Bytes, Status};
 use aqe_cli::run_words;
+use aqe_journal::Journal;
 use aqe_store::{
     Calls, Files, MemorySink, MemoryStore, Name, SteadyStore, StoreCall, StoreKind, WriteNumbers,
 };
+use aqe_task::TaskRunner;
 use std::alloc::Global;
 use std::test::Fail;
 
@@ -15,29 +17,37 @@ const FIRST: &str = "_c0\n1\n\\.\n";
 
 const BOTH: &str = "_c0\n1\n\\.\na\tb\n1\ta\n2\t\\N\n\\.\n";
 
-/// The script, its table and a file that it has no use for.
-fn files(alloc: Global) -> Result<Files, Fail> {
+/// Files of these paths and texts.
+pub(crate) fn held(alloc: Global, texts: &[(&str, &str)]) -> Result<Files, Fail> {
     let mut held = Files::new(alloc);
-    for (path, text) in [
-        ("q.sql", SCRIPT),
-        ("t/0.csv", "1,a\n2,\n"),
-        ("t/_x", "9,z\n"),
-    ] {
+    for (path, text) in texts {
         let bytes = Bytes::from_vec(Vec::from_slice(alloc, text.as_bytes())?);
         held.push((Name::copy_of(alloc, path)?, bytes))?;
     }
     Ok(held)
 }
 
+/// The script, its table and a file that it has no use for.
+fn files(alloc: Global) -> Result<Files, Fail> {
+    held(
+        alloc,
+        &[
+            ("q.sql", SCRIPT),
+            ("t/0.csv", "1,a\n2,\n"),
+            ("t/_x", "9,z\n"),
+        ],
+    )
+}
+
 /// `run` and the path of a script.
-fn words(alloc: Global, path: &str) -> Result<Vec<String>, Fail> {
+pub(crate) fn words(alloc: Global, path: &str) -> Result<Vec<String>, Fail> {
     let mut words = Vec::new(alloc);
     words.push(String::from_str(alloc, "run")?)?;
     words.push(String::from_str(alloc, path)?)?;
     Ok(words)
 }
 
-fn sink(alloc: Global, room: u64) -> Result<MemorySink, Fail> {
+pub(crate) fn sink(alloc: Global, room: u64) -> Result<MemorySink, Fail> {
     Ok(MemorySink::new(alloc, room, WriteNumbers::new(alloc))?)
 }
 
@@ -65,7 +75,15 @@ fn end_with(
     let mut store = failing_store(alloc, kind, number)?;
     let mut err = sink(alloc, 1000)?;
     let words = words(alloc, "q.sql")?;
-    Ok(run_words(alloc, words.as_slice(), &mut store, out, &mut err))
+    Ok(run_words(
+        alloc,
+        words.as_slice(),
+        &mut store,
+        out,
+        &mut err,
+        &mut Journal::new(alloc),
+        &mut TaskRunner::new(alloc),
+    ))
 }
 
 #[test]
@@ -114,7 +132,15 @@ fn steady_end(
 ) -> Result<Status, Fail> {
     let mut store = SteadyStore::new(alloc, files(alloc)?);
     let words = words(alloc, path)?;
-    Ok(run_words(alloc, words.as_slice(), &mut store, out, err))
+    Ok(run_words(
+        alloc,
+        words.as_slice(),
+        &mut store,
+        out,
+        err,
+        &mut Journal::new(alloc),
+        &mut TaskRunner::new(alloc),
+    ))
 }
 
 #[test]

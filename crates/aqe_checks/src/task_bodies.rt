@@ -1,7 +1,7 @@
 //! Bodies of stages that tests run, each with what a task relies on.
 
 ghost use Rattle.std.specs.Prelude.{◌≡◌, ◌≤◌, ◌<◌, length, max, All, IfOk};
-ghost use Rattle.aqe_lists.specs.LoadedTables.{tables_of};
+ghost use Rattle.aqe_estimates.specs.LoadedTables.{tables_of};
 ghost use Rattle.aqe_rects.specs.Rectangles.{LiesWithin};
 ghost use Rattle.aqe_checks.specs.Serving.{Follows, HasTable, Holds, IsReadyAnywhere, Ready};
 

@@ -2,7 +2,7 @@
 //! the places of keys are those of Spark's Murmur3, from a model in Python.
 
 ghost use Rattle.std.specs.Prelude.{◌≡◌, IfOk};
-ghost use Rattle.aqe_lists.specs.LoadedTables.{tables_of};
+ghost use Rattle.aqe_estimates.specs.LoadedTables.{tables_of};
 ghost use Rattle.aqe_checks.specs.Serving.{HasTable, Holds, Ready};
 
 use crate::rows::row_text;

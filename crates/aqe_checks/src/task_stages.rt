@@ -1,7 +1,7 @@
 //! What tests of tasks run over: a loaded table, and what one stage keeps.
 
 ghost use Rattle.std.specs.Prelude.{◌≡◌, ◌<◌, length, IfOk};
-ghost use Rattle.aqe_lists.specs.LoadedTables.{tables_of};
+ghost use Rattle.aqe_estimates.specs.LoadedTables.{tables_of};
 ghost use Rattle.aqe_stages.specs.Runnable.{reducers_of};
 ghost use Rattle.aqe_tables.specs.Loaded.{AreShaped, IsLoaded};
 ghost use Rattle.aqe_checks.specs.Serving.{HasTable, Holds, IsEasy, IsKeptBelow, Ready};

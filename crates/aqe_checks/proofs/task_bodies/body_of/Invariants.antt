@@ -1,5 +1,5 @@
 -- the body so far is ready
-use Rattle.aqe_lists.specs.LoadedTables.{tables_of}
+use Rattle.aqe_estimates.specs.LoadedTables.{tables_of}
 use Rattle.aqe_checks.specs.Serving.{Ready}
 use Rattle.aqe_checks.proofs.task_bodies.body_of.Given as goal
 

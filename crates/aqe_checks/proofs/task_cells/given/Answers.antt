@@ -1,5 +1,5 @@
 use Rattle.std.proofs.Common.{rules, ◌<◌}
-use Rattle.aqe_lists.specs.LoadedTables.{tables_of}
+use Rattle.aqe_estimates.specs.LoadedTables.{tables_of}
 use Rattle.aqe_checks.proofs.StageSteps.{task_served}
 use Rattle.aqe_checks.proofs.task_cells.given.Goals as goal
 

@@ -1,5 +1,5 @@
 use Rattle.std.proofs.Common.{rules, ◌<◌}
-use Rattle.aqe_lists.specs.LoadedTables.{tables_of}
+use Rattle.aqe_estimates.specs.LoadedTables.{tables_of}
 use Rattle.aqe_checks.proofs.StageSteps.{stage_holds}
 use Rattle.aqe_checks.proofs.task_stages.ground_of.Goals as goal
 

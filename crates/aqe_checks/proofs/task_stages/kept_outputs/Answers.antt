@@ -1,5 +1,5 @@
 use Rattle.std.proofs.Common.{rules, ◌<◌}
-use Rattle.aqe_lists.specs.LoadedTables.{tables_of}
+use Rattle.aqe_estimates.specs.LoadedTables.{tables_of}
 use Rattle.aqe_checks.proofs.StageSteps.{task_served, given_fits, given_more}
 use Rattle.aqe_checks.proofs.task_stages.kept_outputs.Goals as goal
 

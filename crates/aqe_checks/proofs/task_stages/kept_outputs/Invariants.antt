@@ -1,5 +1,5 @@
 -- the outputs of the maps so far are kept
-use Rattle.aqe_lists.specs.LoadedTables.{tables_of}
+use Rattle.aqe_estimates.specs.LoadedTables.{tables_of}
 use Rattle.aqe_checks.specs.Serving.{IsKeptBelow}
 use Rattle.aqe_checks.proofs.task_stages.kept_outputs.Given as goal
 

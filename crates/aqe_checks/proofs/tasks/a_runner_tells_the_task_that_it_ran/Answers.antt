@@ -1,5 +1,5 @@
 use Rattle.std.proofs.Common.{[]}
-use Rattle.aqe_lists.specs.LoadedTables.{tables_of}
+use Rattle.aqe_estimates.specs.LoadedTables.{tables_of}
 use Rattle.aqe_checks.proofs.Served.{one_row}
 use Rattle.aqe_checks.proofs.tasks.a_runner_tells_the_task_that_it_ran.Goals as goal
 
