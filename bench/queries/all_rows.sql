@@ -1,0 +1,2 @@
+-- two columns of every row, printed
+SELECT id, region FROM orders
