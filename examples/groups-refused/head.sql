@@ -1,0 +1,3 @@
+CREATE TABLE t (a INT, b STRING) USING csv LOCATION 'examples/tables/t';
+CREATE TABLE h (k INT, v INT) USING csv LOCATION 'examples/tables/h';
+CREATE TABLE flags (yes BOOLEAN, n BIGINT) USING csv LOCATION 'examples/placed-keys/flags';
