@@ -1,0 +1,9 @@
+pub mod Values
+pub mod Cuts
+pub mod InPairs
+pub mod Meaning
+pub mod LeftRow
+pub mod Replaced
+pub mod Sides
+pub mod Walk
+pub mod KnownAnswers
