@@ -27,7 +27,7 @@ use Rattle.aqe_physical.specs.declared.target.JoinWay.TheVariants as way
 use Rattle.aqe_physical.specs.declared.plan.Plan as plan
 use Rattle.aqe_physical.specs.declared.plan.Plan.{Plan}
 use Rattle.aqe_physical.specs.Shapes.{moved, matched, grouped, finished, ordered, cut_locally, cut_globally, both_of}
-use Rattle.aqe_fitting.specs.Keys.{keys_of}
+use Rattle.aqe_join_keys.specs.Keys.{keys_of}
 use Rattle.aqe_fitting.specs.Placing.{after_project, after_groups, after_join, placed_behind, keeps_groups}
 use Rattle.aqe_fitting.specs.Planning.{Planned, stays, goes, a_row, a_scan, a_nothing, a_read, by_parts, by_loop, groups_here, groups_moved, groups_read, sort_here, sort_moved, limit_moved, skip_moved, a_sampled}
 use Rattle.aqe_physical.specs.declared.sizes.StageSize.{StageSize}

@@ -14,7 +14,7 @@ use Rattle.aqe_physical.specs.declared.target.JoinWay.{JoinWay}
 use Rattle.aqe_physical.specs.declared.target.JoinWay.TheVariants as way
 use Rattle.aqe_physical.specs.declared.plan.Plan.{Plan, Scan, Nothing, Read}
 use Rattle.aqe_physical.specs.Shapes.{moved, matched, grouped, finished, cut_locally}
-use Rattle.aqe_fitting.specs.Keys.{has_keys}
+use Rattle.aqe_join_keys.specs.Keys.{has_keys}
 use Rattle.aqe_fitting.specs.Placing.{Asks, one_part, hash_of, groups_of, order_of, whole, gives, serves, is_single, is_hash_of, keeps_groups, keeps_order, after_project, after_groups, after_join, placed_behind, place_of, groups_target}
 use Rattle.aqe_fitting.specs.Planning.{Brought, stays, goes, is_by_parts, Planned, a_row, a_scan, a_nothing, a_read, a_whole_read, a_filter, a_project, by_parts, by_whole_right, by_whole_left, by_loop, groups_here, groups_moved, groups_read, a_union, sort_here, sort_moved, limit_here, limit_moved, skip_moved, a_sampled}
 use Rattle.aqe_fitting.specs.Laws.{Chooses, ChoosesOne}

@@ -18,7 +18,7 @@ use Rattle.aqe_join_rows.specs.declared.join_keys.JoinKeys.{JoinKeys}
 use Rattle.aqe_physical.specs.declared.target.Target.{Target}
 use Rattle.aqe_physical.specs.declared.target.Target.TheVariants as target
 use Rattle.aqe_physical.specs.declared.plan.Plan.{Plan, Nothing, ReadBroadcast}
-use Rattle.aqe_fitting.specs.Keys.{columns_from}
+use Rattle.aqe_join_keys.specs.Keys.{columns_from}
 
 -- two sort keys are the same where they compare the same expression in the same way
 abbrev pub same_key : SortKey → SortKey → Bool
@@ -67,8 +67,8 @@ after_project items (place.Hash keys) = hash_by (each_found (kept_column items) 
 after_project items (place.Range keys) = range_by (each_found (found_key (kept_column items)) keys)
 after_project items w = place.Any
 
--- After partial groups: a hash whose keys are all among the grouping keys is spelled over the key columns, each at its first
--- place. Another hash, and a range, are known no more.
+-- The first columns of partial groups are their keys. So a hash by some of the grouping keys is told by these columns, by the first one that
+-- has the key; where rows stood by something else, or in a range, nothing is known of the groups.
 abbrev pub after_groups : List Expr → Placement → Placement
 after_groups keys place.Single = place.Single
 after_groups keys (place.Hash others) = hash_by (each_found (column_with keys) others)

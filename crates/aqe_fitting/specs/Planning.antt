@@ -22,7 +22,7 @@ use Rattle.aqe_physical.specs.declared.target.JoinWay.TheVariants as way
 use Rattle.aqe_physical.specs.declared.plan.Plan as plan
 use Rattle.aqe_physical.specs.declared.plan.Plan.{Plan}
 use Rattle.aqe_physical.specs.Shapes.{kept, mapped, moved, matched, grouped, finished, ordered, cut_locally, cut_globally, both_of}
-use Rattle.aqe_fitting.specs.Keys.{keys_of, has_keys}
+use Rattle.aqe_join_keys.specs.Keys.{keys_of, has_keys}
 use Rattle.aqe_fitting.specs.Placing.{Asks, one_part, hash_of, groups_of, order_of, whole, serves, after_project, after_join, placed_behind, place_of, place_of_groups, groups_target, is_broadcast, sample_of}
 
 -- What is asked of a child is brought: it stays as it is planned where it serves, and else an exchange stands over it.

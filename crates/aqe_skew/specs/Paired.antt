@@ -92,8 +92,8 @@ module _ (kind : JoinKind) (left right : SideCells) (rule : SkewRule) where
   abbrev pub both_sizes : ℕ → ℕ → List ℕ
   both_sizes a n = map (λ r. partition_size left r + partition_size right r) (range_with_len a n)
 
-  -- The pairs from a reducer on. A reducer at which a side is split gives all pairs of the parts. A run of other reducers, up to the next
-  -- at which a side is split or to the end, is read in groups.
+  -- The pairs of all reducers from one on, in rising order. Where a side is split, each part of the left is paired with each of the right. What
+  -- lies between two such reducers is taken together, and read in groups.
   pub data PairsFrom (target : Option ℕ) : ℕ → List RectPair → Type 0 where
     at_end : {a : ℕ} {pairs : List RectPair} → a ≡ left.reducers → pairs ≡ [] → PairsFrom target a pairs
     in_parts : {a : ℕ} {pairs : List RectPair} (lefts rights : List ℕ) (rest : List RectPair) →

@@ -1,0 +1,2 @@
+pub mod WidthSteps
+pub mod Tables
