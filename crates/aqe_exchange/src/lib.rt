@@ -5,4 +5,5 @@ mod key;
 mod parts;
 mod write;
 
+pub use parts::Parts;
 pub use write::{spread_hash, spread_single, write_hash, write_single};

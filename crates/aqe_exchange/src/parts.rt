@@ -11,7 +11,7 @@ use std::marker::Model;
 
 /// Cells that rows are still put into, which contracts see as the list of these cells.
 #[derive(Drop)]
-pub(crate) struct Parts {
+pub struct Parts {
     cells: Vec<Rows>,
 }
 

@@ -1,0 +1,4 @@
+pub mod Placing
+pub mod Counted
+pub mod Picked
+pub mod InOrder
