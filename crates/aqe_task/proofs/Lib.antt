@@ -4,3 +4,10 @@ pub mod FileFacts
 pub mod PartFacts
 pub mod FormSteps
 pub mod KeptParts
+pub mod SideParts
+pub mod JoinSteps
+pub mod Broadcasts
+pub mod BehindParts
+pub mod MadeSteps
+pub mod MadeParts
+pub mod UnionParts

@@ -1,5 +1,5 @@
 -- What a task carries out so far: the forms of plans and the kinds of stages.
-use Rattle.std.specs.Prelude.{Bool, true, false, IsTrue}
+use Rattle.std.specs.Prelude.{Bool, true, false, ◌&&◌, IsTrue}
 use Rattle.aqe_physical.specs.declared.target.Target.{Target}
 use Rattle.aqe_physical.specs.declared.target.Target.TheVariants.{Range}
 use Rattle.aqe_physical.specs.declared.target.StageKind.{StageKind}
@@ -13,17 +13,17 @@ is_built OneRow = true
 is_built (Scan table files) = true
 is_built (Nothing count width) = true
 is_built (Read stage maps reducers rects) = true
-is_built (ReadBroadcast stage) = false
+is_built (ReadBroadcast stage) = true
 is_built (kept cond child) = is_built child
 is_built (mapped items child) = is_built child
 is_built (moved target child) = false
-is_built (matched way kind keys v w left right) = false
+is_built (matched way kind keys v w left right) = is_built left && is_built right
 is_built (grouped keys calls child) = is_built child
 is_built (finished keys calls child) = is_built child
 is_built (ordered keys child) = false
-is_built (cut_locally count child) = false
-is_built (cut_globally count skip child) = false
-is_built (both_of left right) = false
+is_built (cut_locally count child) = is_built child
+is_built (cut_globally count skip child) = is_built child
+is_built (both_of left right) = is_built left && is_built right
 
 abbrev pub IsBuiltBody : Plan → Type 0
 IsBuiltBody body = IsTrue (is_built body)

@@ -1,5 +1,5 @@
 -- What private functions read and keep.
-use Rattle.std.specs.Prelude.{◌≤◌, ◌<◌, ℕ, List, [], ◌∷◌, flat_map, IsSome}
+use Rattle.std.specs.Prelude.{◌≡◌, ◌≤◌, ◌<◌, ℕ, List, [], ◌∷◌, flat_map, None, IsSome}
 use Rattle.std.specs.Option.{unwrap_or}
 use Rattle.aqe_base.specs.declared.cells.Rect.{Rect}
 use Rattle.aqe_blocks.specs.Kept.{AllKept, output_at}
@@ -34,6 +34,10 @@ kept_column kept stage m0 m1 r = flat_map (λ m. kept_cell kept stage m r) (numb
 
 abbrev pub kept_rows : AllKept → ℕ → Rect → List Row
 kept_rows kept stage rect = flat_map (kept_column kept stage rect.m0 rect.m1) (numbers rect.r0 rect.r1)
+
+-- rows are the first cells, map by map, of all maps in front of the first that is not kept
+abbrev pub AreFirstCells : AllKept → ℕ → List Row → Type 0
+AreFirstCells kept stage rows = (n : ℕ) × AreKept kept stage 0 n × (output_at kept stage n ≡ None) × (rows ≡ kept_column kept stage 0 n 0)
 
 -- what the keys of a target, and of a kind of stage, ask of the rows of a part
 abbrev pub CanSend : Target → List Row → Type 0

@@ -1,6 +1,8 @@
 //! One task: the cells of one part of a stage's body.
 #![tactic(auto)]
 
+mod behind;
+mod joining;
 mod keeping;
 mod part;
 mod part_rows;

@@ -7,9 +7,11 @@ ghost use Rattle.aqe_task.specs.Built.{IsBuiltBody};
 ghost use Rattle.aqe_task.specs.Tasks.{IsServed, GivesPart};
 ghost use Rattle.aqe_task.specs.Pieces.{rows_in};
 
+use crate::behind::behind_parts;
+use crate::joining::{joined, left_part, right_part};
 use crate::part_rows::{PartRows, no_rows, one_row};
-use crate::reading::{read, scanned};
-use crate::steps::{filtered, finished, grouped, projected};
+use crate::reading::{read, read_all, scanned};
+use crate::steps::made;
 use aqe_base::Memory;
 use aqe_blocks::Outputs;
 use aqe_physical::Plan;
@@ -33,32 +35,30 @@ pub(crate) fn part_of<'a>(
         Plan::Scan { table, files } => scanned(alloc, tables, *table, *files, k),
         Plan::Nothing { .. } => Ok(no_rows(alloc)),
         Plan::Read { stage, rects, .. } => read(alloc, outputs, *stage, *rects.at(k as usize)),
-        Plan::Filter { cond, child } => {
+        Plan::ReadBroadcast { stage } => read_all(alloc, outputs, *stage),
+        Plan::Filter { child, .. }
+        | Plan::Project { child, .. }
+        | Plan::PartialAgg { child, .. }
+        | Plan::FinalAgg { child, .. }
+        | Plan::LocalLimit { child, .. }
+        | Plan::GlobalLimit { child, .. } => {
             let rows = part_of(alloc, child.get(), k, tables, outputs)?;
-            let kept = filtered(alloc, cond, rows)?;
-            Ok(PartRows::Owned(kept))
+            made(alloc, body, rows)
         }
-        Plan::Project { items, child } => {
-            let rows = part_of(alloc, child.get(), k, tables, outputs)?;
-            let made = projected(alloc, items, rows)?;
-            Ok(PartRows::Owned(made))
+        Plan::Join {
+            way,
+            left,
+            right,
+            ..
+        } => {
+            let left = part_of(alloc, left.get(), left_part(*way, k), tables, outputs);
+            let right = part_of(alloc, right.get(), right_part(*way, k), tables, outputs);
+            joined(alloc, body, left, right)
         }
-        Plan::PartialAgg { keys, calls, child } => {
-            let rows = part_of(alloc, child.get(), k, tables, outputs)?;
-            let made = grouped(alloc, keys, calls, rows)?;
-            Ok(PartRows::Owned(made))
-        }
-        Plan::FinalAgg { keys, calls, child } => {
-            let rows = part_of(alloc, child.get(), k, tables, outputs)?;
-            let made = finished(alloc, *keys, calls, rows)?;
-            Ok(PartRows::Owned(made))
-        }
-        Plan::ReadBroadcast { .. }
-        | Plan::Exchange { .. }
-        | Plan::Join { .. }
-        | Plan::Sort { .. }
-        | Plan::LocalLimit { .. }
-        | Plan::GlobalLimit { .. }
-        | Plan::Union { .. } => unreachable!(),
+        Plan::Union { left, right } => match behind_parts(left.get(), k) {
+            None => part_of(alloc, left.get(), k, tables, outputs),
+            Some(rest) => part_of(alloc, right.get(), rest, tables, outputs),
+        },
+        Plan::Exchange { .. } | Plan::Sort { .. } => unreachable!(),
     }
 }

@@ -2,9 +2,11 @@
 
 ghost use Rattle.std.specs.Prelude.{◌≡◌, ◌∷◌, ◌++◌, [], IfOk, OnOk};
 ghost use Rattle.aqe_operators.specs.Lent.{lent_rows};
+ghost use Rattle.aqe_probe.specs.Joinable.{rows_seen};
 ghost use Rattle.aqe_task.specs.Pieces.{rows_in};
 
 use aqe_base::Memory;
+use aqe_joins::lend;
 use aqe_values::{Row, Rows};
 use std::alloc::Global;
 
@@ -83,4 +85,35 @@ fn copied(alloc: Global, pieces: &[&[Row]]) -> Result<Rows, Memory>
         push_copies(alloc, piece, &mut own)?;
     }
     Ok(own)
+}
+
+/// Appends each of the rows, lent.
+fn push_lent<'a>(rows: &'a [Row], lent: &mut Vec<&'a Row>) -> Result<(), Memory>
+    ensures { OnOk result (rows_seen lent.new.items ≡ rows_seen lent.old.items ++ rows.now) }
+{
+    'rows: for row in rows {
+        lent.push(row)?;
+    }
+    Ok(())
+}
+
+#[tactic(auto, using(crate::proofs::Lending::piece_more))]
+fn lend_pieces<'a>(alloc: Global, pieces: &[&'a [Row]]) -> Result<Vec<&'a Row>, Memory>
+    ensures { IfOk result (λ lent. rows_seen lent.items ≡ lent_rows pieces.now) }
+{
+    let mut lent = Vec::new(alloc);
+    'pieces: for piece in pieces {
+        push_lent(piece, &mut lent)?;
+    }
+    Ok(lent)
+}
+
+/// The rows, lent one by one.
+pub(crate) fn lend_each<'a>(alloc: Global, rows: &'a PartRows<'a>) -> Result<Vec<&'a Row>, Memory>
+    ensures { IfOk result (λ lent. rows_seen lent.items ≡ rows_in rows.now) }
+{
+    match rows {
+        PartRows::Lent(pieces) => lend_pieces(alloc, pieces.as_slice()),
+        PartRows::Owned(rows) => lend(alloc, rows.slice()),
+    }
 }

@@ -1,11 +1,11 @@
 //! The rows that tables and kept outputs lend.
 
-ghost use Rattle.std.specs.Prelude.{◌≡◌, ◌≤◌, ◌<◌, ◌++◌, ℕ, [], length, slice_index_or, IfOk, OnOk, IsSome};
+ghost use Rattle.std.specs.Prelude.{◌≡◌, ◌≤◌, ◌<◌, ◌++◌, ℕ, [], length, slice_index_or, None, IfOk, OnOk, IsSome};
 ghost use Rattle.aqe_blocks.specs.Kept.{output_at};
 ghost use Rattle.aqe_operators.specs.Lent.{lent_rows};
 ghost use Rattle.aqe_stages.specs.Parts.{file_rows};
 ghost use Rattle.aqe_estimates.specs.LoadedTables.{tables_of};
-ghost use Rattle.aqe_task.specs.Pieces.{rows_in, AreKept, kept_cell, kept_column, kept_rows};
+ghost use Rattle.aqe_task.specs.Pieces.{rows_in, AreFirstCells, AreKept, kept_cell, kept_column, kept_rows};
 
 use crate::part_rows::PartRows;
 use aqe_base::{MapId, Memory, Rect, ReduceId, StageId};
@@ -81,5 +81,33 @@ pub(crate) fn read<'a>(
     'reducers: for r in rect.r0..rect.r1 {
         lend_column(outputs, stage, rect.m0, rect.m1, r, &mut pieces)?;
     }
+    Ok(PartRows::Lent(pieces))
+}
+
+/// The number of maps in front of the first whose output is not kept.
+fn count_maps(outputs: &Outputs, stage: StageId) -> Result<u32, Memory>
+    ensures kept { IfOk result (λ n. AreKept outputs.now stage.0 0 n) }
+    ensures end { IfOk result (λ n. output_at outputs.now stage.0 n ≡ None) }
+{
+    'maps: for m in 0..u32::MAX {
+        if !outputs.is_kept(stage, MapId(m)) {
+            return Ok(m);
+        }
+    }
+    // No memory holds so many outputs.
+    Err(Memory)
+}
+
+/// All rows of a stage whose maps have one cell each, map by map.
+pub(crate) fn read_all<'a>(
+    alloc: Global,
+    outputs: &'a Outputs,
+    stage: StageId,
+) -> Result<PartRows<'a>, Memory>
+    ensures { IfOk result (λ rows. AreFirstCells outputs.now stage.0 (rows_in rows)) }
+{
+    let maps = count_maps(outputs, stage)?;
+    let mut pieces = Vec::new(alloc);
+    lend_column(outputs, stage, 0, maps, 0, &mut pieces)?;
     Ok(PartRows::Lent(pieces))
 }

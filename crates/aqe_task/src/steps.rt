@@ -1,11 +1,13 @@
 //! The steps that make rows of the rows of a part.
 
-ghost use Rattle.std.specs.Prelude.{◌≡◌, ◌+◌, map, filter, length, nat_le, IfOk};
+ghost use Rattle.std.specs.Prelude.{◌≡◌, ◌+◌, map, filter, drop, length, nat_le, IfOk};
 ghost use Rattle.aqe_expr.specs.Meaning.{holds};
+ghost use Rattle.aqe_logical.specs.Answers.{at_most_rows};
 ghost use Rattle.aqe_logical.specs.Groups.{row_of, group_rows, finish_rows};
 ghost use Rattle.aqe_logical.specs.WellFormed.{HaveWidth};
 ghost use Rattle.aqe_stages.specs.Runnable.{Narrow};
 ghost use Rattle.aqe_values.specs.Bounds.{row_limit};
+ghost use Rattle.aqe_task.specs.Below.{CanMake, made_by};
 ghost use Rattle.aqe_task.specs.Pieces.{rows_in};
 
 use crate::part_rows::PartRows;
@@ -13,9 +15,10 @@ use aqe_base::Memory;
 use aqe_expr::Expr;
 use aqe_logical::{AggCalls, Exprs};
 use aqe_operators::{
-    filter_lent, filter_rows, final_lent, final_rows, partial_lent, partial_rows, project_lent,
-    project_rows,
+    filter_lent, filter_rows, final_lent, final_rows, limit_lent, limit_rows, partial_lent,
+    partial_rows, project_lent, project_rows,
 };
+use aqe_physical::Plan;
 use aqe_values::Rows;
 use std::alloc::Global;
 
@@ -23,7 +26,7 @@ use std::alloc::Global;
 pub(crate) const ROW_LIMIT: usize = 1024;
 
 /// The rows of which the condition holds.
-pub(crate) fn filtered(alloc: Global, cond: &Expr, rows: PartRows<'_>) -> Result<Rows, Memory>
+fn filtered(alloc: Global, cond: &Expr, rows: PartRows<'_>) -> Result<Rows, Memory>
     ensures { IfOk result (λ kept. kept ≡ filter (holds cond.now) (rows_in rows.entry)) }
 {
     match rows {
@@ -33,7 +36,7 @@ pub(crate) fn filtered(alloc: Global, cond: &Expr, rows: PartRows<'_>) -> Result
 }
 
 /// For each row the values of the items over it.
-pub(crate) fn projected(alloc: Global, items: &Exprs, rows: PartRows<'_>) -> Result<Rows, Memory>
+fn projected(alloc: Global, items: &Exprs, rows: PartRows<'_>) -> Result<Rows, Memory>
     requires { Narrow (map (row_of items.now) (rows_in rows)) }
     ensures { IfOk result (λ made. made ≡ map (row_of items.now) (rows_in rows.entry)) }
 {
@@ -55,7 +58,7 @@ fn has_room(keys: usize, calls: &AggCalls) -> bool
 }
 
 /// The partial rows of the groups.
-pub(crate) fn grouped(
+fn grouped(
     alloc: Global,
     keys: &Exprs,
     calls: &AggCalls,
@@ -75,12 +78,7 @@ pub(crate) fn grouped(
 }
 
 /// The groups of partial rows.
-pub(crate) fn finished(
-    alloc: Global,
-    keys: u32,
-    calls: &AggCalls,
-    rows: PartRows<'_>,
-) -> Result<Rows, Memory>
+fn finished(alloc: Global, keys: u32, calls: &AggCalls, rows: PartRows<'_>) -> Result<Rows, Memory>
     requires width { HaveWidth (keys + length calls.now) (rows_in rows) }
     requires narrow { Narrow (rows_in rows) × Narrow (finish_rows keys calls.now (rows_in rows)) }
     ensures { IfOk result (λ made. made ≡ finish_rows keys calls.now (rows_in rows.entry)) }
@@ -92,5 +90,56 @@ pub(crate) fn finished(
     match rows {
         PartRows::Lent(pieces) => final_lent(alloc, keys, calls, pieces.as_slice()),
         PartRows::Owned(rows) => final_rows(alloc, keys, calls, &rows),
+    }
+}
+
+/// The rows behind the first `skip`, and of these the first `count` or all. Lent rows stay lent.
+fn limited<'a>(rows: PartRows<'a>, count: Option<u64>, skip: u64) -> PartRows<'a>
+    ensures { rows_in result ≡ at_most_rows count (drop skip (rows_in rows.entry)) }
+{
+    match rows {
+        PartRows::Lent(pieces) => PartRows::Lent(limit_lent(pieces, count, skip)),
+        PartRows::Owned(rows) => PartRows::Owned(limit_rows(rows, count, skip)),
+    }
+}
+
+/// The rows that a plan makes of those of a part of the plan below it.
+#[tactic(auto, using(crate::proofs::MadeSteps::made_steps))]
+pub(crate) fn made<'a>(
+    alloc: Global,
+    plan: &Plan,
+    rows: PartRows<'a>,
+) -> Result<PartRows<'a>, Memory>
+    requires { CanMake plan.now (rows_in rows) }
+    ensures { IfOk result (λ part. rows_in part ≡ made_by plan.now (rows_in rows.entry)) }
+{
+    match plan {
+        Plan::Filter { cond, .. } => {
+            let kept = filtered(alloc, cond, rows)?;
+            Ok(PartRows::Owned(kept))
+        }
+        Plan::Project { items, .. } => {
+            let made = projected(alloc, items, rows)?;
+            Ok(PartRows::Owned(made))
+        }
+        Plan::PartialAgg { keys, calls, .. } => {
+            let made = grouped(alloc, keys, calls, rows)?;
+            Ok(PartRows::Owned(made))
+        }
+        Plan::FinalAgg { keys, calls, .. } => {
+            let made = finished(alloc, *keys, calls, rows)?;
+            Ok(PartRows::Owned(made))
+        }
+        Plan::LocalLimit { count, .. } => Ok(limited(rows, Some(*count), 0)),
+        Plan::GlobalLimit { count, skip, .. } => Ok(limited(rows, *count, *skip)),
+        Plan::OneRow
+        | Plan::Scan { .. }
+        | Plan::Nothing { .. }
+        | Plan::Read { .. }
+        | Plan::ReadBroadcast { .. }
+        | Plan::Exchange { .. }
+        | Plan::Join { .. }
+        | Plan::Sort { .. }
+        | Plan::Union { .. } => unreachable!(),
     }
 }
