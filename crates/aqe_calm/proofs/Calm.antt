@@ -1,13 +1,14 @@
 -- What holds of a run in which nothing but the rest ends tasks.
-use Rattle.std.proofs.Common.{◌≡◌, refl, ap, sym, ◌∙◌, ◌≤◌, ◌<◌, ◌==◌, zero, suc, ℕ, Bool, true, false, cond, ◌&&◌, ◌||◌, List, [], ◌∷◌, ◌++◌, length, arith, Option, Some, None, is_some, slice_get, length-append, inl, inr}
+use Rattle.std.proofs.Common.{◌≡◌, refl, ap, sym, subst, ◌∙◌, ◌≤◌, ◌<◌, ◌==◌, zero, suc, ℕ, Bool, true, false, cond, ◌&&◌, ◌||◌, List, [], ◌∷◌, ◌++◌, length, arith, Option, Some, None, is_some, slice_get, length-append, inl, inr}
 use Rattle.std.specs.Option.{option_or}
-use Rattle.std.proofs.lemmas.Bool.{cases_Bool, eqb-true}
+use Rattle.std.specs.Prelude.{◌⊎◌}
+use Rattle.std.proofs.lemmas.Bool.{cases_Bool, cases_lt, eqb-true}
 use Rattle.std.proofs.lemmas.List.{append-nil, append_assoc}
 use Rattle.std.proofs.lemmas.List.Elements.{All-nil, All-cons, All-append}
 use Rattle.aqe_scheduler.specs.declared.fate.Fate.TheVariants as fate
 use Rattle.aqe_scheduler.specs.declared.need.Need.{Need}
 use Rattle.aqe_scheduler.specs.History.{Birth, Step, Added, Marked, Happened}
-use Rattle.aqe_scheduler.specs.Looks.{births, counted, whole, task_count}
+use Rattle.aqe_scheduler.specs.Looks.{births, counted, whole, task_count, tasks_in}
 use Rattle.aqe_scheduler.specs.Fates.{task_reads, fates}
 use Rattle.aqe_scheduler.specs.Rest.{rest_ending}
 use Rattle.aqe_scheduler.proofs.Behind.{births_more, counted_more}
@@ -16,7 +17,7 @@ use Rattle.aqe_journal.specs.Needed.{birth_over}
 use Rattle.aqe_calm.specs.Calm.{births_over, CalmHistory}
 use Rattle.aqe_endings.specs.Peace.{IsPeaceful, first_whole}
 use Rattle.aqe_endings.proofs.Histories.{births_same}
-use Rattle.aqe_endings.proofs.Wholes.{first_event, first_quiet, whole_marked, whole_added}
+use Rattle.aqe_endings.proofs.Wholes.{first_event, first_quiet, get_more, whole_marked, whole_added}
 use Rattle.aqe_endings.proofs.Endings.{MayEnd, open_whole, whole_stays}
 
 births_end : (before stages : Stages) (stage : Stage) → births_over before (stages ++ stage ∷ []) ≡ births_over before stages ++ birth_over (before ++ stages) stage ∷ []
@@ -40,6 +41,7 @@ nothing_yet = record {
   peaceful = All-nil IsPeaceful;
   whole = λ s. refl;
   unborn = λ s t le. refl;
+  within = λ s t le. refl;
   births = refl;
 }
 
@@ -49,6 +51,8 @@ calm_marked stages h stage is_needed c = record {
   peaceful = All-append IsPeaceful h (Marked stage is_needed ∷ []) c.peaceful (All-cons IsPeaceful (Marked stage is_needed) [] tt (All-nil IsPeaceful));
   whole = λ s. whole_marked h stage is_needed s ∙ c.whole s ∙ sym (ap (λ o. is_some o) (first_quiet h (Marked stage is_needed) s tt (whole_marked h stage is_needed s)));
   unborn = λ s t le. counted_more h (Marked stage is_needed) s t ∙ or_false (counted h s t) ∙ c.unborn s t le;
+  within = λ s t le. counted_more h (Marked stage is_needed) s t ∙ or_false (counted h s t)
+      ∙ c.within s t (subst (λ bs. task_count bs s ≤ t) (births_same h (Marked stage is_needed) refl) le);
   births = births_same h (Marked stage is_needed) refl ∙ c.births;
 }
 
@@ -63,8 +67,13 @@ calm_added stages h stage some c =
       peaceful = All-append IsPeaceful h (Added birth ∷ []) c.peaceful (All-cons IsPeaceful (Added birth) [] tt (All-nil IsPeaceful));
       whole = λ s. same s ∙ c.whole s ∙ sym (ap (λ o. is_some o) (first_quiet h (Added birth) s tt (same s)));
       unborn = λ s t le. counted_more h (Added birth) s t ∙ or_false (counted h s t) ∙ c.unborn s t (omega (arith, le, long));
+      within = λ s t le. counted_more h (Added birth) s t ∙ or_false (counted h s t) ∙ older s t (subst (λ bs. task_count bs s ≤ t) (births_more h (Added birth)) le) (cases_lt s (length (births h)));
       births = births_more h (Added birth) ∙ ap (λ bs. bs ++ birth ∷ []) c.births ∙ sym (births_end [] stages stage);
     }
+  where
+    older : (s t : ℕ) → task_count (births h ++ birth_over stages stage ∷ []) s ≤ t → (s < length (births h)) ⊎ (length (births h) ≤ s) → counted h s t ≡ false
+    older s t le (inl lt) = c.within s t (subst (λ o. tasks_in o ≤ t) (get_more (births h) (birth_over stages stage) s lt) le)
+    older s t le (inr ge) = let many = born_many stages h c in c.unborn s t (omega (arith, ge, many))
 
 -- the stage of a task that may end is there, and is not whole
 pub stage_there : (stages : Stages) (h : List Step) (place : ℕ × ℕ) → CalmHistory stages h → MayEnd h place → (place.0 < length stages) × (place.1 < task_count (births h) place.0)
@@ -99,6 +108,7 @@ calm_ended stages h place c m =
       whole = λ s. by (whole h s) refl (whole (h ++ x ∷ []) s) (whole_stays h place (not_whole stages h place c m) s) ∙ ap (λ b. b || whole (h ++ x ∷ []) s) (c.whole s)
           ∙ joined (first_whole h s) (whole (h ++ x ∷ []) s) ∙ sym (ap (λ o. is_some o) (first_event h (rest_ending place) fate.Counted s));
       unborn = λ s t le. counted_more h x s t ∙ ap (λ b. counted h s t || (b && (place.1 == t))) (apart s le there.0) ∙ or_false (counted h s t) ∙ c.unborn s t le;
+      within = λ s t le. past s t (subst (λ bs. task_count bs s ≤ t) (births_same h x refl) le) there.1;
       births = births_same h x refl ∙ c.births;
     }
   where
@@ -110,6 +120,19 @@ calm_ended stages h place c m =
     joined (Some n) b = refl
     joined None true = refl
     joined None false = refl
+
+    -- the task that ended is one of its stage
+    past : (s t : ℕ) → task_count (births h) s ≤ t → place.1 < task_count (births h) place.0 → counted (h ++ Happened (rest_ending place) fate.Counted ∷ []) s t ≡ false
+    past s t le lt = counted_more h (Happened (rest_ending place) fate.Counted) s t ∙ ap (λ b. counted h s t || b) (other (place.0 == s) refl) ∙ or_false (counted h s t) ∙ c.within s t le
+      where
+        other : (b : Bool) → (place.0 == s) ≡ b → ((place.0 == s) && (place.1 == t)) ≡ false
+        other false e = ap (λ b. b && (place.1 == t)) e
+        other true e = ap (λ b. b && (place.1 == t)) e ∙ elim (cases_Bool (place.1 == t)) as (λ w. (place.1 == t) ≡ false) [
+          | inl so ↦ let same = eqb-true place.1 t so in
+              let here : place.1 < task_count (births h) s = subst (λ k. place.1 < task_count (births h) k) (eqb-true place.0 s e) lt in
+              absurd (omega (arith, same, here, le))
+          | inr not_so ↦ not_so
+        ]
 
     apart : (s : ℕ) → length stages ≤ s → place.0 < length stages → (place.0 == s) ≡ false
     apart s le lt = elim (cases_Bool (place.0 == s)) as (λ w. (place.0 == s) ≡ false) [

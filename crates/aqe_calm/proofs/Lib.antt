@@ -4,6 +4,7 @@ pub mod Results
 pub mod CalmStates
 pub mod Served
 pub mod Consequences
+pub mod HeldCells
 pub mod ResultCells
 pub mod RestRuns
 pub mod Progress

@@ -1,21 +1,23 @@
 -- Before a query is done some task may end next.
-use Rattle.std.proofs.Common.{◌≡◌, refl, ap, sym, subst, ◌∙◌, ◌≤◌, ◌<◌, ◌+◌, ◌-◌, ◌==◌, zero, suc, ℕ, Bool, true, false, cond, not, ◌&&◌, ◌||◌, List, [], ◌∷◌, ◌++◌, map, flat_map, fold, take, length, arith, Option, Some, None, is_some, slice_get, slice_index_or, length-append, inl, inr}
+use Rattle.std.proofs.Common.{◌≡◌, refl, ap, sym, subst, ◌∙◌, ◌≤◌, ◌<◌, ◌+◌, ◌-◌, ◌==◌, zero, suc, ℕ, Bool, true, false, cond, not, nat_lt, ◌&&◌, ◌||◌, List, [], ◌∷◌, ◌++◌, map, flat_map, fold, take, length, arith, Option, Some, None, is_some, slice_get, slice_index_or, length-append, inl, inr}
 use Rattle.std.specs.Prelude.{All, ◌⊎◌}
 use Rattle.std.specs.List.{list_any, list_all, range_with_len, find}
 use Rattle.std.specs.Option.{unwrap_or, option_or, option_and_then}
 use Rattle.std.proofs.lemmas.Bool.{cases_Bool, cases_eq, cases_lt, eqb-true}
 use Rattle.std.proofs.lemmas.List.{append-nil, append_assoc}
 use Rattle.std.proofs.lemmas.List.Folds.{find-append}
-use Rattle.std.proofs.lemmas.List.Elements.{All-nil, All-cons, All-head, All-tail}
+use Rattle.std.proofs.lemmas.List.Elements.{All-head, All-tail}
 use Rattle.aqe_base.specs.declared.stage_id.StageId.{StageId}
 use Rattle.aqe_base.specs.declared.cells.Rect.{Rect}
 use Rattle.aqe_base.specs.declared.event.Event.{Event}
-use Rattle.aqe_base.specs.declared.join_kind.Side.TheVariants.{Left}
+use Rattle.aqe_base.specs.declared.join_kind.Side.TheVariants.{Left, Right}
 use Rattle.aqe_rects.specs.Rectangles.{LiesWithin}
 use Rattle.aqe_physical.specs.declared.target.Target.{Target}
 use Rattle.aqe_physical.specs.declared.target.Target.TheVariants as target
 use Rattle.aqe_physical.specs.declared.target.StageKind.{StageKind}
 use Rattle.aqe_physical.specs.declared.target.StageKind.TheVariants as kind
+use Rattle.aqe_physical.specs.declared.target.JoinWay.{JoinWay}
+use Rattle.aqe_physical.specs.declared.target.JoinWay.TheVariants as way
 use Rattle.aqe_physical.specs.declared.plan.Plan.{Plan, OneRow, Scan, Nothing, Read, ReadBroadcast}
 use Rattle.aqe_physical.specs.Shapes.{kept, mapped, moved, matched, grouped, finished, ordered, cut_locally, cut_globally, both_of}
 use Rattle.aqe_physical.specs.Nodes.{nodes}
@@ -24,28 +26,27 @@ use Rattle.aqe_physical.proofs.Nodes.{Each, each, all_nodes}
 use Rattle.aqe_logical.specs.Answers.{Tables}
 use Rattle.aqe_stages.specs.Stages.{Stage, Stages}
 use Rattle.aqe_stages.specs.Reads as reads
-use Rattle.aqe_stages.specs.Reads.{ReadsBelow, ReadsBelowAt, needs, task_needs, rect_needs}
-use Rattle.aqe_stages.specs.Runnable.{Runnable, CanRun, OfStage, Narrow, reducers_of}
+use Rattle.aqe_stages.specs.Reads.{ReadsBelow, ReadsBelowAt, needs, task_needs, rect_needs, join_needs}
+use Rattle.aqe_stages.specs.Runnable.{CanRun, OfStage, Narrow, reducers_of}
 use Rattle.aqe_stages.specs.Parts.{all}
-use Rattle.aqe_making.specs.Ready.{is_ready, sample_ready}
+use Rattle.aqe_making.specs.Ready.{is_ready}
 use Rattle.aqe_making.specs.Makings.{Making, makings, all_makings, result_of, below, made_here, stage_of}
 use Rattle.aqe_making.specs.After.{after, read_after, stage_at}
 use Rattle.aqe_making.proofs.Standing.{standing, are_ready, made_at}
 use Rattle.aqe_making.proofs.Stepping.{none_other, one_by_one, queries_one_by_one}
 use Rattle.aqe_bodies.proofs.MadeRuns.{first_of}
 use Rattle.aqe_fit_laws.specs.Serving.{IsNoExchange}
-use Rattle.aqe_scheduler.specs.declared.need.Need.{Need}
 use Rattle.aqe_scheduler.specs.declared.fate.Fate.TheVariants as fate
-use Rattle.aqe_scheduler.specs.History.{Birth, Entry, Step, Adds, Marks, Added, Marked, Happened}
-use Rattle.aqe_scheduler.specs.Looks.{births, needed, marked, counted, done, whole, task_count, tasks_in}
-use Rattle.aqe_scheduler.specs.Fates.{noted, has_inputs, task_reads}
-use Rattle.aqe_scheduler.specs.Rest.{tasks_of, places, may_end, rest_of, rest_ending}
+use Rattle.aqe_scheduler.specs.History.{Entry, Step, Adds, Marks, Marked}
+use Rattle.aqe_scheduler.specs.Looks.{births, needed, done, whole, task_count, tasks_in}
+use Rattle.aqe_scheduler.specs.Fates.{noted, has_inputs, maps_of, task_reads}
+use Rattle.aqe_scheduler.specs.Rest.{tasks_of, may_end, rest_of, rest_ending}
 use Rattle.aqe_scheduler.proofs.Behind.{any_more, needed_more}
 use Rattle.aqe_scheduler.proofs.Taken.{noted_more}
 use Rattle.aqe_endings.proofs.Endings.{MayEnd, next_may_end, whole_other, both_left, both_right}
 use Rattle.aqe_endings.proofs.Wholes.{whole_added, whole_marked}
 use Rattle.aqe_journal.specs.Asked.{Asked}
-use Rattle.aqe_journal.specs.Needed.{is_result, plan_reads, node_reads, target_reads, kind_reads, stage_reads, is_read_later, marks_from, needed_stages, need_over, birth_over, map_count}
+use Rattle.aqe_journal.specs.Needed.{is_result, plan_reads, node_reads, target_reads, kind_reads, stage_reads, is_read_later, marks_from, needed_stages, need_over, birth_over, map_count, maps_in}
 use Rattle.aqe_journal.specs.States.{State, history, number_of, with_stage, with_event, with_marks, marks_of, is_whole, is_materialised, is_turning}
 use Rattle.aqe_journal.specs.LegalRecord.{SoFar, begun, one_on, Takes, goes_on, turns, PlansAgain, never, keeps, adopts, settled, has_result, is_done, is_result_in}
 use Rattle.aqe_journal.proofs.Born.{not_materialised}
@@ -53,16 +54,16 @@ use Rattle.aqe_journal.proofs.StagesRun.{no_exchange, stays_put, carried_out}
 use Rattle.aqe_journal.specs.Steady.{Kept}
 use Rattle.aqe_journal.specs.Laws.{IsSound}
 use Rattle.aqe_journal.specs.States.{first_state}
-use Rattle.aqe_task.specs.Built.{IsBuiltBody, IsBuiltKind}
+use Rattle.aqe_task.specs.Built.{is_built, IsBuiltBody, IsBuiltKind}
 use Rattle.aqe_calm.specs.Forms.{IsBuiltTo, IsBuiltNode, IsCarriedOut}
-use Rattle.aqe_calm.specs.Calm.{Calm, CalmHistory, IsAnswerAt}
+use Rattle.aqe_calm.specs.Calm.{Calm, IsAnswerAt}
 use Rattle.aqe_calm.specs.Laws.{Reaches, TasksAreLeft}
 use Rattle.aqe_calm.proofs.Calm.{born_many, not_whole}
 use Rattle.aqe_calm.proofs.CalmStates.{exchange_made, result_made, calm_event, reads_many}
 use Rattle.aqe_calm.proofs.Consequences.{materialised_whole, turning_whole, history_behind}
-use Rattle.aqe_calm.proofs.RestRuns.{calm_begun, calm_settled, rest_runs_calm, IsRest, next_is_rest}
+use Rattle.aqe_calm.proofs.RestRuns.{calm_begun, rest_runs_calm, next_is_rest}
 use Rattle.aqe_calm.proofs.Results.{no_result}
-use Rattle.aqe_calm.proofs.Served.{all_at, births_at, get_mapped}
+use Rattle.aqe_calm.proofs.Served.{all_at, births_at, get_mapped, get_taken, get_behind}
 
 clash : false ≡ true → ⊥
 clash c = cc (c)
@@ -106,13 +107,24 @@ record OpenRead (w : ℕ → Bool) (p : Plan) : Type 0 where
 below_reads : (w : ℕ → Bool) (p q : Plan) → ((s : ℕ) → plan_reads p s ≡ true → plan_reads q s ≡ true) → OpenRead w p → OpenRead w q
 below_reads w p q up r = record { stage = r.stage; read = up r.stage r.read; unwhole = r.unwhole }
 
+any_left : {X : Type 0} (p : X → Bool) (xs ys : List X) → list_any p xs ≡ true → list_any p (xs ++ ys) ≡ true
+any_left p [] ys e = absurd (clash e)
+any_left p (x ∷ xs) ys e = elim (cases_Bool (p x)) as (λ v. list_any p (x ∷ xs ++ ys) ≡ true) [
+  | inl here ↦ ap (λ b. b || list_any p (xs ++ ys)) here
+  | inr not_here ↦ or_true (p x) (list_any p (xs ++ ys)) (any_left p xs ys (sym (ap (λ b. b || list_any p xs) not_here) ∙ e))
+]
+
+any_right : {X : Type 0} (p : X → Bool) (xs ys : List X) → list_any p ys ≡ true → list_any p (xs ++ ys) ≡ true
+any_right p [] ys e = e
+any_right p (x ∷ xs) ys e = or_true (p x) (list_any p (xs ++ ys)) (any_right p xs ys e)
+
 -- a plan of which nothing can be made, and that is not ready, reads a stage that is not whole
 open_read : (w : ℕ → Bool) (p : Plan) → Each IsBuiltNode p → makings w p ≡ [] → is_ready w p ≡ false → OpenRead w p
 open_read w OneRow b none f = absurd (clash (sym f))
 open_read w (Scan table files) b none f = absurd (clash (sym f))
 open_read w (Nothing count width) b none f = absurd b
 open_read w (Read stage maps reducers rects) b none f = record { stage = stage.0; read = ap (λ c. c || false) (self stage.0); unwhole = f }
-open_read w (ReadBroadcast stage) b none f = absurd b
+open_read w (ReadBroadcast stage) b none f = record { stage = stage.0; read = ap (λ c. c || false) (self stage.0); unwhole = f }
 open_read w (kept c p) b none f = below_reads w p (kept c p) (λ s r. r) (open_read w p b.1 (empty_map (below Left) (makings w p) none) f)
 open_read w (mapped items p) b none f = below_reads w p (mapped items p) (λ s r. r) (open_read w p b.1 (empty_map (below Left) (makings w p) none) f)
 open_read w (moved to p) b none f =
@@ -132,14 +144,29 @@ open_read w (moved to p) b none f =
     unready (target.Hash keys n) bt e = sym (and_true (is_ready w p)) ∙ cond_none (is_ready w p && true) (record { place = []; stage = stage_of (target.Hash keys n) p }) e
     unready (target.Range keys n sample) bt e = absurd bt
     unready target.Single bt e = sym (and_true (is_ready w p)) ∙ cond_none (is_ready w p && true) (record { place = []; stage = stage_of target.Single p }) e
-    unready target.Broadcast bt e = absurd bt
-open_read w (matched how k keys v u p q) b none f = absurd b.0
+    unready target.Broadcast bt e = sym (and_true (is_ready w p)) ∙ cond_none (is_ready w p && true) (record { place = []; stage = stage_of target.Broadcast p }) e
+open_read w (matched how k keys v u p q) b none f =
+    at_side (is_ready w p) refl
+    (λ e. open_read w p b.1 (empty_map (below Left) (makings w p) (empty_left (map (below Left) (makings w p)) (map (below Right) (makings w q)) none)) e)
+    (λ e. open_read w q b.2 (empty_map (below Right) (makings w q) (empty_right (map (below Left) (makings w p)) (map (below Right) (makings w q)) none)) e)
+  where
+    at_side : (ready : Bool) → is_ready w p ≡ ready → (is_ready w p ≡ false → OpenRead w p) → (is_ready w q ≡ false → OpenRead w q) → OpenRead w (matched how k keys v u p q)
+    at_side false e left right = below_reads w p (matched how k keys v u p q) (λ s r. any_left (node_reads s) (nodes p) (nodes q) r) (left e)
+    at_side true e left right =
+        below_reads w q (matched how k keys v u p q) (λ s r. any_right (node_reads s) (nodes p) (nodes q) r) (right (sym (ap (λ c. c && is_ready w q) e) ∙ f))
 open_read w (grouped keys calls p) b none f = below_reads w p (grouped keys calls p) (λ s r. r) (open_read w p b.1 (empty_map (below Left) (makings w p) none) f)
 open_read w (finished n calls p) b none f = below_reads w p (finished n calls p) (λ s r. r) (open_read w p b.1 (empty_map (below Left) (makings w p) none) f)
 open_read w (ordered keys p) b none f = absurd b.0
-open_read w (cut_locally n p) b none f = absurd b.0
-open_read w (cut_globally n k p) b none f = absurd b.0
-open_read w (both_of p q) b none f = absurd b.0
+open_read w (cut_locally n p) b none f = below_reads w p (cut_locally n p) (λ s r. r) (open_read w p b.1 (empty_map (below Left) (makings w p) none) f)
+open_read w (cut_globally n k p) b none f = below_reads w p (cut_globally n k p) (λ s r. r) (open_read w p b.1 (empty_map (below Left) (makings w p) none) f)
+open_read w (both_of p q) b none f =
+    at_side (is_ready w p) refl
+    (λ e. open_read w p b.1 (empty_map (below Left) (makings w p) (empty_left (map (below Left) (makings w p)) (map (below Right) (makings w q)) none)) e)
+    (λ e. open_read w q b.2 (empty_map (below Right) (makings w q) (empty_right (map (below Left) (makings w p)) (map (below Right) (makings w q)) none)) e)
+  where
+    at_side : (ready : Bool) → is_ready w p ≡ ready → (is_ready w p ≡ false → OpenRead w p) → (is_ready w q ≡ false → OpenRead w q) → OpenRead w (both_of p q)
+    at_side false e left right = below_reads w p (both_of p q) (λ s r. any_left (node_reads s) (nodes p) (nodes q) r) (left e)
+    at_side true e left right = below_reads w q (both_of p q) (λ s r. any_right (node_reads s) (nodes p) (nodes q) r) (right (sym (ap (λ c. c && is_ready w q) e) ∙ f))
 
 -- a plan reads stages below a number
 reads_below : (n : ℕ) (ps : List Plan) → All (ReadsBelowAt n) ps → (s : ℕ) → list_any (node_reads s) ps ≡ true → s < n
@@ -493,7 +520,8 @@ stage_with [] s lt = absurd (omega (arith, lt))
 stage_with (x ∷ xs) zero lt = (x, refl)
 stage_with (x ∷ xs) (suc s) lt = stage_with xs s (omega (arith, lt))
 
-module _ (tables : Tables) (stages prefix : Stages) (h : List Step) (counts : (p : ℕ) (stage : Stage) → slice_get stages p ≡ Some stage → task_count (births h) p ≡ part_count stage.body) where
+module _ (tables : Tables) (stages prefix : Stages) (h : List Step) (counts : (p : ℕ) (stage : Stage) → slice_get stages p ≡ Some stage → task_count (births h) p ≡ part_count stage.body)
+    (few : (p : ℕ) → map_count prefix p ≤ task_count (births h) p) where
   abbrev Runs : Plan → Type 0
   Runs node = CanRun tables stages node × Narrow (all tables stages node)
 
@@ -514,8 +542,34 @@ module _ (tables : Tables) (stages prefix : Stages) (h : List Step) (counts : (p
       most rect one = one.0
   rects_fed stage reducers (rect ∷ rects) (suc k) is lies = rects_fed stage reducers rects k is (All-tail (λ (rect : Rect). LiesWithin (task_count (births h) stage.0) reducers rect) rect rects lies)
 
+  abbrev AreIn : List reads.Need → Type 0
+  AreIn wanted = has_inputs (done h) (map (need_over prefix) wanted) ≡ true
+
+  both_in : (a b : List reads.Need) → AreIn a → AreIn b → AreIn (a ++ b)
+  both_in [] b f g = g
+  both_in (need ∷ a) b f g =
+      let n = need_over prefix need in
+      let first = list_all (done h n.stage.0) (maps_of n) in
+      let rest = has_inputs (done h) (map (need_over prefix) a) in
+      λ i. both_left first rest f i && both_in a b (both_right first rest f) g i
+
+  each_in : (wanted : ℕ → List reads.Need) (ks : List ℕ) → ((k : ℕ) → AreIn (wanted k)) → AreIn (flat_map wanted ks)
+  each_in wanted [] f = refl
+  each_in wanted (k ∷ ks) f = both_in (wanted k) (flat_map wanted ks) (f k) (each_in wanted ks f)
+
+  sides_in : (how : JoinWay) (a all_a b all_b : List reads.Need) → AreIn a → AreIn all_a → AreIn b → AreIn all_b → AreIn (join_needs how a all_a b all_b)
+  sides_in way.SortMerge a all_a b all_b f all_f g all_g = both_in a b f g
+  sides_in (way.ShuffledHash side) a all_a b all_b f all_f g all_g = both_in a b f g
+  sides_in (way.Broadcast Left) a all_a b all_b f all_f g all_g = both_in all_a b all_f g
+  sides_in (way.Broadcast Right) a all_a b all_b f all_f g all_g = both_in a all_b f all_g
+  sides_in way.NestedLoop a all_a b all_b f all_f g all_g = both_in all_a all_b all_f all_g
+
+  one_in : (left : Bool) (a b : List reads.Need) → AreIn a → AreIn b → AreIn (cond left a b)
+  one_in true a b f g = f
+  one_in false a b f g = g
+
   -- a body of which all stages that it reads are whole has its inputs
-  fed : (body : Plan) (k : ℕ) → IsBuiltBody body → Each Runs body → ((p : ℕ) → plan_reads body p ≡ true → whole h p ≡ true) → has_inputs (done h) (map (need_over prefix) (needs body k)) ≡ true
+  fed : (body : Plan) (k : ℕ) → IsBuiltBody body → Each Runs body → ((p : ℕ) → plan_reads body p ≡ true → whole h p ≡ true) → AreIn (needs body k)
   fed OneRow k b r all = refl
   fed (Scan table files) k b r all = refl
   fed (Nothing count width) k b r all = refl
@@ -523,17 +577,25 @@ module _ (tables : Tables) (stages prefix : Stages) (h : List Step) (counts : (p
       let spoken = of_stage stages stage.0 (λ read. All (LiesWithin (part_count read.body) (reducers_of read.kind)) rects) r.0 in
       rects_fed stage (reducers_of spoken.stage.kind) rects k (all stage.0 (ap (λ c. c || false) (self stage.0)))
       (subst (λ n. All (λ rect. LiesWithin n (reducers_of spoken.stage.kind) rect) rects) (sym (counts stage.0 spoken.stage spoken.at)) spoken.holds)
-  fed (ReadBroadcast stage) k b r all = absurd (clash b)
+  fed (ReadBroadcast stage) k b r all =
+      ap (λ b. b && true) (whole_range stage.0 0 (map_count prefix stage.0) (all stage.0 (ap (λ c. c || false) (self stage.0))) (few stage.0))
   fed (kept c p) k b r all = fed p k b r.1 all
   fed (mapped items p) k b r all = fed p k b r.1 all
   fed (moved to p) k b r all = absurd (clash b)
-  fed (matched how kd keys v w p q) k b r all = absurd (clash b)
+  fed (matched how kd keys v w p q) k b r all =
+      let left = λ (j : ℕ). fed p j (both_left (is_built p) (is_built q) b) r.1 (λ s e. all s (any_left (node_reads s) (nodes p) (nodes q) e)) in
+      let right = λ (j : ℕ). fed q j (both_right (is_built p) (is_built q) b) r.2 (λ s e. all s (any_right (node_reads s) (nodes p) (nodes q) e)) in
+      sides_in how (needs p k) (reads.all_needs p (needs p)) (needs q k) (reads.all_needs q (needs q)) (left k) (each_in (needs p) (range_with_len 0 (part_count p)) left)
+      (right k) (each_in (needs q) (range_with_len 0 (part_count q)) right)
   fed (grouped keys calls p) k b r all = fed p k b r.1 all
   fed (finished n calls p) k b r all = fed p k b r.1 all
   fed (ordered keys p) k b r all = absurd (clash b)
-  fed (cut_locally n p) k b r all = absurd (clash b)
-  fed (cut_globally n m p) k b r all = absurd (clash b)
-  fed (both_of p q) k b r all = absurd (clash b)
+  fed (cut_locally n p) k b r all = fed p k b r.1 all
+  fed (cut_globally n m p) k b r all = fed p k b r.1 all
+  fed (both_of p q) k b r all =
+      one_in (nat_lt k (part_count p)) (needs p k) (needs q (k - part_count p))
+      (fed p k (both_left (is_built p) (is_built q) b) r.1 (λ s e. all s (any_left (node_reads s) (nodes p) (nodes q) e)))
+      (fed q (k - part_count p) (both_right (is_built p) (is_built q) b) r.2 (λ s e. all s (any_right (node_reads s) (nodes p) (nodes q) e)))
 
   task_fed : (what : StageKind) (body : Plan) (k : ℕ) → IsBuiltKind what → has_inputs (done h) (map (need_over prefix) (needs body k)) ≡ true → has_inputs (done h) (map (need_over prefix) (task_needs what body k)) ≡ true
   task_fed (kind.Shuffle (target.Hash keys n)) body k b e = e
@@ -644,6 +706,7 @@ module _ (asked : Asked) (now : State) (r : Reaches asked now) (undone : is_done
       let answer = subst (IsAnswerAt asked (rest_runs_calm asked now r).0 now.stages s) st.1 (calm.answers s) in
       let counts : (p : ℕ) (other : Stage) → slice_get now.stages p ≡ Some other → task_count (births h) p ≡ part_count other.body =
       λ p other e. ap tasks_in (ap (λ bs. slice_get bs p) calm.events.births ∙ births_at [] now.stages p other e) ∙ reads_many (take p now.stages) other in
+      let few : (p : ℕ) → map_count (take s now.stages) p ≤ task_count (births h) p = λ p. maps_few s p counts in
       let whole_reads : (p : ℕ) → plan_reads stage.body p ≡ true → w p ≡ true =
       λ p reads_it.
       let less = reads_below s (nodes stage.body) answer.0 p reads_it in
@@ -663,8 +726,8 @@ module _ (asked : Asked) (now : State) (r : Reaches asked now) (undone : is_done
       ∙ ap (λ k. Some (map (need_over (take s now.stages)) (task_needs stage.kind stage.body k))) zero_more in
       let inputs : has_inputs (done h) (unwrap_or (task_reads (births h) s t) []) ≡ true =
       ap (λ o. has_inputs (done h) (unwrap_or o [])) reads_are
-      ∙ task_fed asked.tables now.stages (take s now.stages) h counts stage.kind stage.body t forms.1
-      (fed asked.tables now.stages (take s now.stages) h counts stage.body t forms.0 (each (Runs asked.tables now.stages (take s now.stages) h counts) stage.body run.0) whole_reads) in
+      ∙ task_fed asked.tables now.stages (take s now.stages) h counts few stage.kind stage.body t forms.1
+      (fed asked.tables now.stages (take s now.stages) h counts few stage.body t forms.0 (each (Runs asked.tables now.stages (take s now.stages) h counts few) stage.body run.0) whole_reads) in
       let needed_here : needed h s ≡ true = stand.marks s lt ∙ is_marked in
       let may : may_end (births h) (needed h) (done h) (s, t) ≡ true = λ i. needed_here i && (not ((ap (done h s) (sym zero_more) ∙ undone_task.2) i) && inputs i) in
       let born_count = born_many now.stages h calm.events in
@@ -672,6 +735,20 @@ module _ (asked : Asked) (now : State) (r : Reaches asked now) (undone : is_done
       let never_may = none_of_map (may_end (births h) (needed h) (done h)) (λ k. (s, k)) 0 (task_count (births h) s) t of_stage_none (omega arith) (omega (arith, t_lt)) in
       clash (sym never_may ∙ may)
     where
+      -- a stage has no fewer tasks than the maps that a later stage knows of it
+      maps_few : (s p : ℕ) → ((p : ℕ) (other : Stage) → slice_get now.stages p ≡ Some other → task_count (births h) p ≡ part_count other.body) → map_count (take s now.stages) p ≤ task_count (births h) p
+      maps_few s p counts = elim (cases_lt p s) [
+        | inl lt ↦ at (slice_get now.stages p) refl (get_taken now.stages s p lt)
+        | inr ge ↦ let none : map_count (take s now.stages) p ≡ 0 = ap maps_in (get_behind now.stages s p ge) in omega (arith, none)
+      ]
+        where
+          at : (o : Option Stage) → slice_get now.stages p ≡ o → slice_get (take s now.stages) p ≡ slice_get now.stages p → map_count (take s now.stages) p ≤ task_count (births h) p
+          at None e t = let none : map_count (take s now.stages) p ≡ 0 = ap maps_in (t ∙ e) in omega (arith, none)
+          at (Some other) e t =
+              let maps : map_count (take s now.stages) p ≡ part_count other.body = ap maps_in (t ∙ e) in
+              let tasks = counts p other e in
+              omega (arith, maps, tasks)
+
       unwhole : (b : Bool) → not b ≡ true → b ≡ false
       unwhole true e = absurd (clash e)
       unwhole false e = refl

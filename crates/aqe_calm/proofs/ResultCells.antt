@@ -1,6 +1,5 @@
 -- The result stage of a calm state has the parts of the first plan, each as one cell.
-use Rattle.std.proofs.Common.{◌≡◌, refl, ap, sym, subst, ◌∙◌, ◌<◌, zero, suc, ℕ, true, false, List, [], ◌∷◌, ◌++◌, length, map, arith, Some, None, slice_get, slice_index_or, length-append}
-use Rattle.std.specs.Option.{unwrap_or}
+use Rattle.std.proofs.Common.{◌≡◌, refl, ap, sym, subst, ◌∙◌, ◌<◌, ℕ, true, false, List, [], ◌∷◌, ◌++◌, length, map, arith, Some, slice_get, slice_index_or, length-append}
 use Rattle.std.proofs.lemmas.List.{append_assoc, append-nil}
 use Rattle.aqe_partial.specs.PartialRows.{joined_parts}
 use Rattle.aqe_stages.specs.Cells.{all_rows}
@@ -8,7 +7,7 @@ use Rattle.aqe_logical.specs.Answers.{Row}
 use Rattle.aqe_physical.specs.declared.plan.Plan.{Plan}
 use Rattle.aqe_physical.specs.declared.target.StageKind.{StageKind}
 use Rattle.aqe_physical.specs.declared.target.StageKind.TheVariants as kind
-use Rattle.aqe_stages.specs.Stages.{Stage, Stages, Given, output_of}
+use Rattle.aqe_stages.specs.Stages.{Stage, Given, output_of}
 use Rattle.aqe_stages.specs.Parts.{parts, given_by, cells, output}
 use Rattle.aqe_stages.specs.Places.{cells_of}
 use Rattle.aqe_stages.specs.Reads.{ReadsBelow}
@@ -17,30 +16,7 @@ use Rattle.aqe_journal.specs.Asked.{Asked}
 use Rattle.aqe_journal.specs.Needed.{is_result}
 use Rattle.aqe_journal.specs.States.{State}
 use Rattle.aqe_calm.specs.Calm.{Calm, parts_over, IsAnswerAt}
-
--- the stages before one with a number, and those behind it
-pub record Around (stages : Stages) (s : ℕ) (stage : Stage) : Type 0 where
-  pub before : Stages
-  pub behind : Stages
-  pub is : stages ≡ before ++ stage ∷ behind
-  pub many : length before ≡ s
-
-pub around : (stages : Stages) (s : ℕ) (stage : Stage) → slice_get stages s ≡ Some stage → Around stages s stage
-around [] s stage e = absurd (none e)
-  where
-    none : None ≡ Some stage → ⊥
-    none n = cc (n)
-around (x ∷ xs) zero stage e = record { before = []; behind = xs; is = ap (λ y. y ∷ xs) (some_one x stage e); many = refl }
-  where
-    some_one : (a b : Stage) → Some a ≡ Some b → a ≡ b
-    some_one a b h = ap (λ o. unwrap_or o a) h
-around (x ∷ xs) (suc s) stage e =
-    let r = around xs s stage e in
-    record { before = x ∷ r.before; behind = r.behind; is = ap (λ ys. x ∷ ys) r.is; many = ap suc r.many }
-
-last_or : {X : Type 0} (xs : List X) (x d : X) → slice_index_or (xs ++ x ∷ []) (length xs) d ≡ x
-last_or [] x d = refl
-last_or (y ∷ ys) x d = last_or ys x d
+use Rattle.aqe_calm.proofs.HeldCells.{around, last_or}
 
 single_cells : (k : StageKind) → is_result k ≡ true → (given : Given) (all : List (List Row)) (ps : List (List Row)) → map (cells_of given k all) ps ≡ map (λ part. part ∷ []) ps
 single_cells kind.Result h given all ps = refl

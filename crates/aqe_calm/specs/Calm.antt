@@ -4,7 +4,7 @@ use Rattle.aqe_logical.specs.Answers.{Row}
 use Rattle.aqe_physical.specs.declared.plan.Plan.{Plan}
 use Rattle.aqe_physical.specs.Nodes.{nodes}
 use Rattle.aqe_scheduler.specs.History.{Birth, Step}
-use Rattle.aqe_scheduler.specs.Looks.{births, counted, whole}
+use Rattle.aqe_scheduler.specs.Looks.{births, counted, whole, task_count}
 use Rattle.aqe_stages.specs.Stages.{Stage, Stages}
 use Rattle.aqe_stages.specs.Parts.{parts, given_by}
 use Rattle.aqe_stages.specs.Reads.{ReadsBelow}
@@ -25,6 +25,7 @@ pub record CalmHistory (stages : Stages) (h : List Step) : Type 0 where
   pub peaceful : All IsPeaceful h
   pub whole : (s : ℕ) → whole h s ≡ is_some (first_whole h s)
   pub unborn : (s t : ℕ) → length stages ≤ s → counted h s t ≡ false
+  pub within : (s t : ℕ) → task_count (births h) s ≤ t → counted h s t ≡ false
   pub births : births h ≡ births_over [] stages
 
 -- what the parts of a plan are over stages

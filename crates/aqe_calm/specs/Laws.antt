@@ -1,14 +1,14 @@
 -- The laws of runs in which nothing but the rest ends tasks: no events are taken from a file, and the rest is run.
-use Rattle.std.specs.Prelude.{ℕ, ◌≡◌, true, false, cond, Some, None, slice_get}
+use Rattle.std.specs.Prelude.{ℕ, ◌≡◌, true, false, cond, Some, None, [], slice_get, slice_index_or}
 use Rattle.aqe_settings.specs.Ranges.{InRange}
-use Rattle.aqe_blocks.specs.Kept.{AllKept}
+use Rattle.aqe_blocks.specs.Kept.{AllKept, output_at}
 use Rattle.aqe_physical.specs.declared.plan.Plan.{Plan}
 use Rattle.aqe_stages.specs.Stages.{Stage}
 use Rattle.aqe_stages.specs.Parts.{cells}
 use Rattle.aqe_stages.specs.Cells.{all_rows}
 use Rattle.aqe_scheduler.specs.Looks.{counted}
 use Rattle.aqe_scheduler.specs.Rest.{rest_of, rest_ending}
-use Rattle.aqe_task.specs.Tasks.{IsKept, IsServedTask}
+use Rattle.aqe_task.specs.Tasks.{IsServedTask}
 use Rattle.aqe_journal.specs.Asked.{Asked}
 use Rattle.aqe_journal.specs.Needed.{is_result}
 use Rattle.aqe_journal.specs.Restrictions.{RunsAlone}
@@ -37,12 +37,15 @@ WholeStagesTurn = (asked : Asked) (now : State) (place : ℕ × ℕ) → Reaches
 abbrev pub RestRunsEndDone : Type 0
 RestRunsEndDone = (asked : Asked) (now : State) → InRange asked.settings → Reaches asked now → reached asked now ≡ cond (is_done now) (Some Done) None
 
--- The next task is served where the output of each task that was counted is kept.
+-- The next task is served where the output of each task that was counted is kept, and no other.
+abbrev pub KeepsCounted : Asked → State → AllKept → Type 0
+KeepsCounted asked now outputs = (s m : ℕ) →
+    output_at outputs s m ≡ cond (counted (history now) s m) (Some (slice_index_or (cells asked.tables now.stages s) m [])) None
+
 abbrev pub NextTasksAreServed : Type 0
 NextTasksAreServed = (asked : Asked) (now : State) (place : ℕ × ℕ) (stage : Stage) (outputs : AllKept) → Reaches asked now →
     rest_of (history now) ≡ Some place → slice_get now.stages place.0 ≡ Some stage →
-    ((s m : ℕ) → counted (history now) s m ≡ true → IsKept asked.tables now.stages outputs s m) →
-    IsServedTask asked.tables now.stages outputs stage.kind stage.body place.1
+    KeepsCounted asked now outputs → IsServedTask asked.tables now.stages outputs stage.kind stage.body place.1
 
 -- Before the query is done some task may end next.
 abbrev pub TasksAreLeft : Type 0

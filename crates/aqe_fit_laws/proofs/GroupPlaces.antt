@@ -18,7 +18,7 @@ use Rattle.aqe_partial.specs.PartialRows.{joined_parts, partial_rows}
 use Rattle.aqe_places.specs.Places.{by_hash, exchanged, part_of}
 use Rattle.aqe_places.specs.Laws.{Placed}
 use Rattle.aqe_places.proofs.Exchanged.{place_the_rows}
-use Rattle.aqe_fitting.specs.Keys.{columns_from}
+use Rattle.aqe_join_keys.specs.Keys.{columns_from}
 use Rattle.aqe_fitting.specs.Placing.{after_groups, each_found, column_with, hash_by, keeps_groups}
 use Rattle.aqe_fit_laws.specs.Standing.{Cut, Stands, plainly}
 use Rattle.aqe_fit_laws.specs.Laws.{GroupsMovePlaces, GroupsOverAPlace, FinishedExchangesStand}

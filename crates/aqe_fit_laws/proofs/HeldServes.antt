@@ -1,7 +1,7 @@
 -- Plain reads of stages serve the leaves that these hold.
 use Rattle.std.proofs.Common.{◌≡◌, ℕ, zero, suc, ◌+◌, ◌-◌, ◌≤◌, List, [], ◌∷◌, map, length, refl, ap, sym, ◌∙◌, arith, append-nil, subst}
 use Rattle.std.specs.Prelude.{All, IsPermutation}
-use Rattle.std.proofs.lemmas.List.Sorted.{IsPermutation-trans, IsPermutation-sym, All-permutation}
+use Rattle.std.proofs.lemmas.List.Sorted.{IsPermutation-refl, IsPermutation-trans, IsPermutation-sym, All-permutation}
 use Rattle.aqe_base.specs.declared.stage_id.StageId.{StageId}
 use Rattle.aqe_base.specs.declared.cells.Rect.{Rect}
 use Rattle.aqe_rects.specs.Rectangles.{LiesWithin, plain_rects}
@@ -32,7 +32,7 @@ use Rattle.aqe_stages.specs.Cells.{all_rows}
 use Rattle.aqe_stages.specs.Places.{place as placed}
 use Rattle.aqe_stages.specs.Parts.{parts, given_by, all}
 use Rattle.aqe_stages.specs.Runnable.{OfStage, reducers_of}
-use Rattle.aqe_fitting.specs.Keys.{columns_from}
+use Rattle.aqe_join_keys.specs.Keys.{columns_from}
 use Rattle.aqe_fitting.specs.Placing.{place_of, groups_target}
 use Rattle.aqe_fit_laws.specs.Standing.{Stands, plainly}
 use Rattle.aqe_fit_laws.specs.Leaves.{held_rows, HasParts, GivesPlace, IsHeldAs, IsPlainRead}
@@ -194,6 +194,15 @@ module _ (tables : Tables) (stages : Stages) (n : ℕ) (files : ℕ → ℕ) (so
         (subst (λ (ps : List (List Row)). Stands n (plainly n) (place.Hash cols) (map (finish_rows (suc k) calls) ps)) (sym r.reads)
         (finished_stand n k calls rows (partials (suc k) e rows (body_rows (target.Hash cols n) refl is))))
         (columns_below 0 (suc k) (length schema) (omega (arith, e)))
+
+-- the read of a stage that is kept whole
+pub a_whole_read_serves : (tables : Tables) (stages : Stages) (n : ℕ) (files : ℕ → ℕ) (some : 1 ≤ n) (stage : StageId) (schema : List Field) → Fine tables stages n files some (logical.Held stage place.Broadcast schema) →
+    Served tables stages n files some (logical.Held stage place.Broadcast schema) (plan.ReadBroadcast stage) place.Any
+a_whole_read_serves tables stages n files some stage schema fine =
+    let held : List Row = held_rows tables stages stage.0 in
+    let rows : List Row = all tables stages (plan.ReadBroadcast stage) in
+    let a : Answer tables (held_rows tables stages) (logical.Held stage place.Broadcast schema) rows = (subst (λ (l : List Row). IsPermutation held l) (sym (append-nil held)) (IsPermutation-refl held), tt) in
+    record { answers = a; stands = tt; over = tt; runs = (fine.right, narrow_answer tables stages n files some (logical.Held stage place.Broadcast schema) rows fine a) }
 
 -- the read of a stage that was made for a place
 pub plain_serve : PlainReadsServe

@@ -7,6 +7,14 @@ pub mod ReadPlainly
 pub mod Widths
 pub mod NodeServes
 pub mod HeldServes
+pub mod JoinedRows
+pub mod JoinedKeys
+pub mod JoinPlaces
+pub mod JoinSides
+pub mod JoinServes
+pub mod PartsTogether
+pub mod SortServes
+pub mod LimitServes
 pub mod PlansServe
 pub mod QueriesStand
 pub mod FittingServes

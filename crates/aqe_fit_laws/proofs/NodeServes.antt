@@ -38,7 +38,7 @@ use Rattle.aqe_physical.proofs.Nodes as physical
 use Rattle.aqe_stages.specs.Stages.{Stages}
 use Rattle.aqe_stages.specs.Parts.{parts, given_by, all, file_rows}
 use Rattle.aqe_stages.specs.Runnable.{Narrow}
-use Rattle.aqe_fitting.specs.Keys.{columns_from}
+use Rattle.aqe_join_keys.specs.Keys.{columns_from}
 use Rattle.aqe_fitting.specs.Placing.{after_project, after_groups, each_found, kept_column, found_key, column_with, hash_by, range_by, keeps_groups}
 use Rattle.aqe_fit_laws.specs.Standing.{Stands, plainly}
 use Rattle.aqe_fit_laws.specs.Leaves.{held_rows, LeafIsRight}

@@ -17,7 +17,7 @@ use Rattle.aqe_logical.specs.Order.{ways_of, key_of}
 use Rattle.aqe_logical.specs.WellFormed.{ItemsBelow, KeysBelow}
 use Rattle.aqe_rules.specs.Equality.{same_expr}
 use Rattle.aqe_laws.proofs.Same.{same_is_equal}
-use Rattle.aqe_fitting.specs.Keys.{columns_from}
+use Rattle.aqe_join_keys.specs.Keys.{columns_from}
 use Rattle.aqe_fitting.specs.Placing.{with_more, each_found, column_with, kept_column, key_over, found_key}
 
 abbrev has : {X : Type 0} → X → Option X → X

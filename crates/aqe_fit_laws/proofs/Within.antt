@@ -21,7 +21,7 @@ module _ (g : List Row → List Row) (leaves : LeavesOnlyRows g) where
   placed_within f a [] h = tt
   placed_within f a (part ∷ parts) (h, k) = (only (λ row. f row ≡ a) part h, placed_within f (a + 1) parts k)
 
-  later_within : (P : Row → Type 0) (parts : List (List Row)) → All P (flat_map (λ later. later) parts) → All P (flat_map (λ later. later) (map g parts))
+  pub later_within : (P : Row → Type 0) (parts : List (List Row)) → All P (flat_map (λ later. later) parts) → All P (flat_map (λ later. later) (map g parts))
   later_within P [] h = All-nil P
   later_within P (part ∷ parts) h =
       All-append P (g part) (flat_map (λ later. later) (map g parts)) (only P part (all_left P part (flat_map (λ later. later) parts) h)) (later_within P parts (all_right P part (flat_map (λ later. later) parts) h))

@@ -1,6 +1,6 @@
 //! Laws of the definitions, each the contract of a function that does nothing.
 
-ghost use Rattle.aqe_fit_laws.specs.Laws.{FinishedExchangesStand, FittingPlansServe, FittingPlansStand, GroupsMovePlaces, GroupsOfMovedParts, GroupsOfPlacedParts, GroupsOverAPlace, NodesWithinPartsKeepPlaces, PartsWithoutExchangeRun, PlainReadsServe, PlansOfQueriesStand, PlansServe, ProjectsMovePlaces};
+ghost use Rattle.aqe_fit_laws.specs.Laws.{FinishedExchangesStand, FittingPlansServe, FittingPlansStand, GroupsMovePlaces, GroupsOfMovedParts, GroupsOfPlacedParts, GroupsOverAPlace, JoinsByPartsMovePlaces, JoinsKeepTheLeftPlace, JoinsMoveTheRightPlace, LimitsOfOnePart, LimitsOfPartsAreTheLimit, NodesWithinPartsKeepPlaces, PartsWithoutExchangeRun, PlainReadsServe, PlansOfQueriesStand, PlansServe, ProjectsMovePlaces, SortsOfMovedParts, SortsOverAPlace, UnionsOfParts};
 
 /// What is done to each part by itself, and makes no new row, keeps every placement.
 pub fn nodes_within_parts_keep_places()
@@ -22,6 +22,21 @@ pub fn finished_exchanges_stand()
     ensures { FinishedExchangesStand }
 {}
 
+/// A join part by part, of sides that stand by the hash of their keys, stands as the table of placements says.
+pub fn joins_by_parts_move_places()
+    ensures { JoinsByPartsMovePlaces }
+{}
+
+/// Left parts that are joined with the whole of the right side stand as they did.
+pub fn joins_keep_the_left_place()
+    ensures { JoinsKeepTheLeftPlace }
+{}
+
+/// Right parts that are joined with the whole of the left side stand as they did, with their keys spelled over joined rows.
+pub fn joins_move_the_right_place()
+    ensures { JoinsMoveTheRightPlace }
+{}
+
 /// Over parts in which rows of equal keys stand together, the groups of the parts end to end are the groups of the whole.
 pub fn groups_of_placed_parts()
     ensures { GroupsOfPlacedParts }
@@ -35,6 +50,31 @@ pub fn groups_over_a_place()
 /// Partial rows that are moved by their keys and then finished part by part are the groups of the whole.
 pub fn groups_of_moved_parts()
     ensures { GroupsOfMovedParts }
+{}
+
+/// A limit of rows in one part is that of the part.
+pub fn limits_of_one_part()
+    ensures { LimitsOfOnePart }
+{}
+
+/// A limit of the first rows of each part is the limit of all rows, in their order.
+pub fn limits_of_parts_are_the_limit()
+    ensures { LimitsOfPartsAreTheLimit }
+{}
+
+/// Over a place at which parts are in order end to end, the parts, each sorted, are their rows sorted.
+pub fn sorts_over_a_place()
+    ensures { SortsOverAPlace }
+{}
+
+/// Rows that are moved by ranges and then sorted part by part are the rows sorted, whatever the samples.
+pub fn sorts_of_moved_parts()
+    ensures { SortsOfMovedParts }
+{}
+
+/// The parts of one side and then those of another are the rows of the one and then those of the other.
+pub fn unions_of_parts()
+    ensures { UnionsOfParts }
 {}
 
 /// A plan that the table of planning gives for a well-formed logical plan has an answer of it as its rows, stands as it is placed, and runs.

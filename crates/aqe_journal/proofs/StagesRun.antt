@@ -34,8 +34,8 @@ use Rattle.aqe_making.specs.Makings.{Making, makings, result_of}
 use Rattle.aqe_making.specs.Ready.{is_ready}
 use Rattle.aqe_making.specs.After.{after, stage_at, exchange_replaced, read_after}
 use Rattle.aqe_fitting.specs.Planning as table
-use Rattle.aqe_fitting.specs.Planning.{Planned}
-use Rattle.aqe_fitting.specs.Placing.{groups_target}
+use Rattle.aqe_fitting.specs.Planning.{Planned, Brought, stays, goes}
+use Rattle.aqe_fitting.specs.Placing.{Asks, groups_target}
 use Rattle.aqe_fitting.specs.Known.{files_of}
 use Rattle.aqe_fitting.specs.InForce.{in_force}
 use Rattle.aqe_fitting.specs.Ways.{ways_by_sizes}
@@ -53,7 +53,7 @@ use Rattle.aqe_journal.specs.Asked.{Asked}
 use Rattle.aqe_journal.specs.States.{State, first_state, with_stage, with_event, with_marks, is_materialised, number_of}
 use Rattle.aqe_journal.specs.LegalRecord.{IsFirst, PlansAgain, never, keeps, adopts, Takes, goes_on, turns, settled, has_result, SoFar, begun, one_on}
 use Rattle.aqe_journal.specs.Laws.{IsSound, CanBeCarriedOut, StagesOfRunsRun}
-use Rattle.aqe_journal.specs.Steady.{AllBorn, IsNoRangeKind, Kept, Steady}
+use Rattle.aqe_journal.specs.Steady.{IsNoRangeKind, Kept, Steady}
 use Rattle.aqe_journal.proofs.Born.{stage_born, event_born, marks_born, not_materialised}
 
 -- a plan that is ready holds no exchange
@@ -297,6 +297,14 @@ module _ (ways : JoinKind → Logical → Logical → JoinWay → Type 0) (n : �
   abbrev Quiet : Plan → Type 0
   Quiet p = Each IsNoRange p × Each (ReadsBelowAt 0) p
 
+  -- an exchange that is brought keeps that where it is no range
+  abbrev IsFree : Target → Plan → Type 0
+  IsFree to p = IsNoRange (moved to p) × ReadsBelowAt 0 (moved to p)
+
+  quiet_brought : (asks : Asks) (to : Target) (p : Plan) (w : Placement) (q : Plan) → IsFree to p → Brought asks to p w q → Quiet p → Quiet q
+  quiet_brought asks to p w q free (stays r u s) h = h
+  quiet_brought asks to p w q free (goes r u s) h = ((free.0, h.0), (free.1, h.1))
+
   sends_free : (k : ℕ) (p : Plan) → IsNoRange (moved (groups_target n k) p) × ReadsBelowAt 0 (moved (groups_target n k) p)
   sends_free zero p = (tt, tt)
   sends_free (suc k) p = (tt, tt)
@@ -309,22 +317,37 @@ module _ (ways : JoinKind → Logical → Logical → JoinWay → Type 0) (n : �
   quiet x p w (table.a_whole_read stage schema) y q = absurd q
   quiet x p w (table.a_filter c z r u d) y q = let s = quiet z r u d y.1 q.1 in ((tt, s.0), (tt, s.1))
   quiet x p w (table.a_project items schema z r u out d e) y q = let s = quiet z r u d y.1 q.1 in ((tt, s.0), (tt, s.1))
-  quiet x p w (table.by_parts how k c keys v l a b r r1 t t1 u z out d e cut h m o b1 b2 f) y q = absurd y.0
-  quiet x p w (table.by_whole_right k c keys v l a b r t t1 u z d e cut h m b1) y q = absurd y.0
-  quiet x p w (table.by_whole_left k c keys v l a b r r1 t u z out d e cut h m b1 o) y q = absurd y.0
-  quiet x p w (table.by_loop k c keys v l a b r r1 t t1 u z d e cut h b1 b2) y q = absurd y.0
+  quiet x p w (table.by_parts how k c keys v l a b r r1 t t1 u z out d e cut h m o b1 b2 f) y q =
+      let i = quiet_brought _ _ r u r1 (tt, tt) b1 (quiet a r u d y.1 q.1) in
+      let j = quiet_brought _ _ t z t1 (tt, tt) b2 (quiet b t z e y.2 q.2) in
+      ((tt, i.0, j.0), (tt, i.1, j.1))
+  quiet x p w (table.by_whole_right k c keys v l a b r t t1 u z d e cut h m b1) y q =
+      let i = quiet a r u d y.1 q.1 in
+      let j = quiet_brought _ _ t z t1 (tt, tt) b1 (quiet b t z e y.2 q.2) in
+      ((tt, i.0, j.0), (tt, i.1, j.1))
+  quiet x p w (table.by_whole_left k c keys v l a b r r1 t u z out d e cut h m b1 o) y q =
+      let i = quiet_brought _ _ r u r1 (tt, tt) b1 (quiet a r u d y.1 q.1) in
+      let j = quiet b t z e y.2 q.2 in
+      ((tt, i.0, j.0), (tt, i.1, j.1))
+  quiet x p w (table.by_loop k c keys v l a b r r1 t t1 u z d e cut h b1 b2) y q =
+      let i = quiet_brought _ _ r u r1 (tt, tt) b1 (quiet a r u d y.1 q.1) in
+      let j = quiet_brought _ _ t z t1 (tt, tt) b2 (quiet b t z e y.2 q.2) in
+      ((tt, i.0, j.0), (tt, i.1, j.1))
   quiet x p w (table.groups_here keys calls schema count z r u out d s c o) y q = let i = quiet z r u d y.1 q.1 in ((tt, (tt, i.0)), (tt, (tt, i.1)))
   quiet x p w (table.groups_moved keys calls schema count to z r u out d s c t o) y q =
       let i = quiet z r u d y.1 q.1 in
       let free = subst (λ (to : Target). IsNoRange (moved to (grouped keys calls r)) × ReadsBelowAt 0 (moved to (grouped keys calls r))) (sym t) (sends_free count (grouped keys calls r)) in
       ((tt, (free.0, (tt, i.0))), (tt, (free.1, (tt, i.1))))
   quiet x p w (table.groups_read stage calls schema count maps reducers rects out c o) y q = absurd q
-  quiet x p w (table.a_union a b r t u z d e) y q = absurd y.0
+  quiet x p w (table.a_union a b r t u z d e) y q =
+      let i = quiet a r u d y.1 q.1 in
+      let j = quiet b t z e y.2 q.2 in
+      ((tt, i.0, j.0), (tt, i.1, j.1))
   quiet x p w (table.sort_here keys z r u d s) y q = absurd y.0
   quiet x p w (table.sort_moved keys sample z r u d s m) y q = absurd y.0
-  quiet x p w (table.limit_here count skip z r u d s) y q = absurd y.0
-  quiet x p w (table.limit_moved count skip first z r u d s e) y q = absurd y.0
-  quiet x p w (table.skip_moved skip z r u d s) y q = absurd y.0
+  quiet x p w (table.limit_here count skip z r u d s) y q = let i = quiet z r u d y.1 q.1 in ((tt, i.0), (tt, i.1))
+  quiet x p w (table.limit_moved count skip first z r u d s e) y q = let i = quiet z r u d y.1 q.1 in ((tt, (tt, (tt, i.0))), (tt, (tt, (tt, i.1))))
+  quiet x p w (table.skip_moved skip z r u d s) y q = let i = quiet z r u d y.1 q.1 in ((tt, (tt, i.0)), (tt, (tt, i.1)))
   quiet x p w (table.a_sampled stage z r u d) y q = absurd y.0
 
 pub start : (asked : Asked) (plan : Plan) → IsSound asked → IsFirst asked plan → Steady asked (first_state asked.query plan)

@@ -1,5 +1,5 @@
 -- What a run keeps of its plan and of each stage that it has made: words of the proof that each stage can be carried out.
-use Rattle.std.specs.Prelude.{◌≡◌, List, length, All}
+use Rattle.std.specs.Prelude.{◌≡◌, length, All}
 use Rattle.aqe_logical.specs.Answers.{Tables}
 use Rattle.aqe_physical.specs.declared.target.Target.TheVariants as target
 use Rattle.aqe_physical.specs.declared.target.StageKind.{StageKind}

@@ -10,8 +10,8 @@ use Rattle.aqe_stages.specs.Stages.{Stage}
 use Rattle.aqe_stages.specs.Making.{plain_read}
 use Rattle.aqe_making.specs.Makings.{Place, stage_of}
 
--- What stands for an exchange once its stage has a number: its plain read, whose maps are the parts of the body; a range of which
--- a sample was made names it.
+-- What replaces an exchange of which a stage was made: the plain read of that stage, or its whole read after a broadcast. Where the stage
+-- only samples the rows of a range, the exchange stays, and names it.
 abbrev pub read_after : StageId → Target → Plan → Plan
 read_after number (Range keys n None) child = moved (Range keys n (Some number)) child
 read_after number Broadcast child = ReadBroadcast number

@@ -66,7 +66,8 @@ shuffles_in None = false
 abbrev pub shuffles : List Birth → ℕ → Bool
 shuffles born s = shuffles_in (slice_get born s)
 
--- a task of a shuffle stage is done while its output is available; of another stage, once it was counted
+-- what a shuffle wrote may be lost, so its task is done as long as the output is there; other outputs are never lost, and there one
+-- counted ending is enough
 abbrev pub done : List Step → ℕ → ℕ → Bool
 done h s t = cond (shuffles (births h) s) (available h s t) (counted h s t)
 

@@ -7,7 +7,7 @@ pub fn reruns_are_bounded()
     ensures { RerunsAreBounded }
 {}
 
-/// A task of a broadcast, sample or result stage runs at most once.
+/// Where outputs cannot be lost, as those of broadcasts, samples and results, no task runs twice.
 pub fn others_run_once()
     ensures { OthersRunOnce }
 {}
