@@ -1,3 +1,6 @@
-pub mod Found
 pub mod Rows
+pub mod JoinRows
+pub mod LimitRows
+pub mod Below
+pub mod WellFormed
 pub mod NoReads

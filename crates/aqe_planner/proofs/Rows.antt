@@ -1,17 +1,10 @@
 -- The rows of the table of planning, over plans and logical plans as the code has them.
-use Rattle.std.proofs.Common.{Result, Ok, Err, IfOk, arith, zero, suc, ◌+◌, ◌++◌, ◌∷◌, ap, sym, subst, ◌∙◌, ◌<◌, inl, inr, get_or, [], Option, ◌≡◌, refl, ℕ, List, length, true, false}
+use Rattle.std.proofs.Common.{Result, Ok, Err, IfOk, ap, ◌∙◌, ◌<◌, inl, inr, get_or, ◌≡◌, refl, ℕ, List, length, true, false}
 use Rattle.std.proofs.lemmas.Bool.{cases_Bool}
 use Rattle.std.proofs.lemmas.List.{get_or_default}
-use Rattle.std.proofs.lemmas.List.Elements.{All-head, All-tail}
-use Rattle.aqe_base.specs.declared.stage_id.StageId.{StageId}
-use Rattle.aqe_expr.specs.declared.expr.Expr.{Expr, Column}
-use Rattle.aqe_fitting.specs.Keys.{columns_from}
-use Rattle.aqe_logical.specs.declared.plan.SortKey.{SortKey}
-use Rattle.aqe_logical.specs.Shapes.{filtered, projected, aggregated}
-use Rattle.aqe_logical.specs.Nodes.{nodes}
+use Rattle.aqe_expr.specs.declared.expr.Expr.{Expr}
 use Rattle.aqe_physical.specs.declared.sizes.Estimate.{Estimate}
 use Rattle.aqe_fitting.specs.Known.{files_of}
-use Rattle.aqe_planner.specs.Built.{is_built, IsReached, Reaches}
 use Rattle.aqe_values.specs.declared.schema.Field.{Field}
 use Rattle.aqe_logical.specs.declared.plan.AggCall.{AggCall}
 use Rattle.aqe_logical.specs.declared.plan.Placement.{Placement}
@@ -34,17 +27,6 @@ use Rattle.aqe_planner.specs.Steps.{groups_here, groups_moved, groups_plan, grou
 pub IfOk-both : {T E : Type 0} (r : Result T E) (P Q R : T → Type 0) → ((x : T) → P x → Q x → R x) → IfOk r P → IfOk r Q → IfOk r R
 IfOk-both (Ok x) P Q R k p q = k x p q
 IfOk-both (Err e) P Q R k p q = tt
-
-columns_last : (a n : ℕ) → columns_from a (suc n) ≡ columns_from a n ++ Column (a + n) ∷ []
-columns_last a zero = ap (λ (k : ℕ). Column k ∷ []) (omega arith)
-columns_last a (suc n) = ap (λ (l : List Expr). Column a ∷ l) (columns_last (a + 1) n ∙ ap (λ (k : ℕ). columns_from (a + 1) n ++ Column k ∷ []) (omega arith))
-
--- one column more
-pub columns_more : (n : ℕ) → columns_from 0 (n + 1) ≡ columns_from 0 n ++ Column n ∷ []
-columns_more n =
-    let e : n + 1 ≡ suc n = omega arith in
-    let z : 0 + n ≡ n = omega arith in
-    ap (columns_from 0) e ∙ (columns_last 0 n ∙ ap (λ (k : ℕ). columns_from 0 n ++ Column k ∷ []) z)
 
 module _ (ways : JoinKind → Logical → Logical → JoinWay → Type 0) (n : ℕ) (files : ℕ → ℕ) where
   pub at-row : (x : Logical) → x ≡ logical.OneRow → Planned ways n files x plan.OneRow place.Single
@@ -85,56 +67,6 @@ module _ (ways : JoinKind → Logical → Logical → JoinWay → Type 0) (n : �
     | inr f ↦ rw (e, k, l, f) (at-moved y keys calls schema p w h f)
   ]
 
--- what the estimates reach, and what is built, of the plan below
-pub reach-scan : (n : ℕ) (x : Logical) (t : ℕ) (schema : List Field) → x ≡ logical.Scan t schema → Reaches n x → t < n
-reach-scan n x t schema e h = All-head (IsReached n) (logical.Scan t schema) [] (subst (Reaches n) e h)
-
+-- the estimate of a table that is scanned
 pub count-scan : (estimates : List Estimate) (t : ℕ) (found : Estimate) → t < length estimates → found ≡ get_or estimates t found → found.files ≡ files_of estimates t
 count-scan estimates t found h e = ap (λ (x : Estimate). x.files) (e ∙ get_or_default estimates t found (record { bytes = 0; files = 1 }) h)
-
-pub reach-filter : (n : ℕ) (x : Logical) (c : Expr) (y z : Logical) → x ≡ logical.Filter c y → z ≡ y → Reaches n x → Reaches n z
-reach-filter n x c y z e f h = subst (Reaches n) (sym f) (All-tail (IsReached n) (filtered c y) (nodes y) (subst (Reaches n) (e ∙ query_shapes.is_filtered c y) h))
-
-pub reach-project : (n : ℕ) (x : Logical) (items : List Expr) (schema : List Field) (y z : Logical) → x ≡ logical.Project items schema y → z ≡ y → Reaches n x → Reaches n z
-reach-project n x items schema y z e f h =
-    subst (Reaches n) (sym f) (All-tail (IsReached n) (projected items schema y) (nodes y) (subst (Reaches n) (e ∙ query_shapes.is_projected items schema y) h))
-
-pub reach-groups : (n : ℕ) (x : Logical) (keys : List Expr) (calls : List AggCall) (schema : List Field) (y z : Logical) → x ≡ logical.Aggregate keys calls schema y → z ≡ y →
-    Reaches n x → Reaches n z
-reach-groups n x keys calls schema y z e f h =
-    subst (Reaches n) (sym f) (All-tail (IsReached n) (aggregated keys calls schema y) (nodes y) (subst (Reaches n) (e ∙ query_shapes.is_aggregated keys calls schema y) h))
-
-pub built-filter : (x : Logical) (c : Expr) (y : Logical) → x ≡ logical.Filter c y → is_built x ≡ is_built y
-built-filter x c y e = ap is_built (e ∙ query_shapes.is_filtered c y)
-
-pub built-project : (x : Logical) (items : List Expr) (schema : List Field) (y : Logical) → x ≡ logical.Project items schema y → is_built x ≡ is_built y
-built-project x items schema y e = ap is_built (e ∙ query_shapes.is_projected items schema y)
-
-pub built-groups : (x : Logical) (keys : List Expr) (calls : List AggCall) (schema : List Field) (y : Logical) → x ≡ logical.Aggregate keys calls schema y → is_built x ≡ is_built y
-built-groups x keys calls schema y e = ap is_built (e ∙ query_shapes.is_aggregated keys calls schema y)
-
-pub built-join : (x : Logical) (kind : JoinKind) (c : Expr) (y z : Logical) → x ≡ logical.Join kind c y z → is_built x ≡ false
-built-join x kind c y z e = ap is_built (e ∙ query_shapes.is_joined kind c y z)
-
-pub built-union : (x y z : Logical) → x ≡ logical.Union y z → is_built x ≡ false
-built-union x y z e = ap is_built (e ∙ query_shapes.is_united y z)
-
-pub built-sort : (x : Logical) (keys : List SortKey) (y : Logical) → x ≡ logical.Sort keys y → is_built x ≡ false
-built-sort x keys y e = ap is_built (e ∙ query_shapes.is_sorted keys y)
-
-pub built-limit : (x : Logical) (count : Option ℕ) (skip : ℕ) (y : Logical) → x ≡ logical.Limit count skip y → is_built x ≡ false
-built-limit x count skip y e = ap is_built (e ∙ query_shapes.is_limited count skip y)
-
-pub built-sampled : (x : Logical) (s : StageId) (y : Logical) → x ≡ logical.Sampled s y → is_built x ≡ false
-built-sampled x s y e = ap is_built (e ∙ query_shapes.is_sampled s y)
-
-pub built-empty : (x : Logical) (schema : List Field) → x ≡ logical.Empty schema → is_built x ≡ false
-built-empty x schema e = ap is_built e
-
-pub built-held : (x : Logical) (s : StageId) (w : Placement) (schema : List Field) → x ≡ logical.Held s w schema → is_built x ≡ false
-built-held x s w schema e = ap is_built e
-
-pub built-partial : (x : Logical) (s : StageId) (calls : List AggCall) (schema : List Field) → x ≡ logical.HeldPartial s calls schema → is_built x ≡ false
-built-partial x s calls schema e = ap is_built e
-
-pub ruleset built_steps = (built-filter, built-project, built-groups, built-join, built-union, built-sort, built-limit, built-sampled, built-empty, built-held, built-partial)

@@ -3,13 +3,17 @@
 ghost use Rattle.std.specs.Prelude.{◌≡◌, [], length, IfOk};
 ghost use Rattle.aqe_settings.specs.Values.{values_of};
 ghost use Rattle.aqe_fitting.specs.Fits.{Fits, IsPlanned};
-ghost use Rattle.aqe_planner.specs.Built.{IsBuilt, Reaches};
+ghost use Rattle.aqe_planner.specs.Built.{IsBuilt, LimitsFit, Reaches};
 
 use crate::groups::grouped;
-use crate::standing::{Standing, filtered, projected};
+use crate::limits::limited;
+use crate::unions::united;
 use aqe_base::Memory;
+use aqe_boxes::{all_three, both};
+use aqe_join_plan::{JoinSides, joined, joining};
 use aqe_logical::{Logical, Placement};
 use aqe_physical::{Estimates, Plan};
+use aqe_placing::{Standing, filtered, projected};
 use aqe_settings::Settings;
 use std::alloc::Global;
 
@@ -22,6 +26,7 @@ fn planned(
 ) -> Result<Standing, Memory>
     requires built { IsBuilt logical.now }
     requires estimates { Reaches (length estimates.now) logical.now }
+    requires limits { LimitsFit logical.now }
     ensures { IfOk result (λ s. IsPlanned s.plan logical.now estimates.now [] (values_of settings.now) s.place) }
 {
     match logical {
@@ -53,10 +58,33 @@ fn planned(
             let from = planned(alloc, child.get(), estimates, settings)?;
             grouped(alloc, keys, calls, settings.exchange_partitions(), from)
         }
-        Logical::Join { .. }
-        | Logical::Union { .. }
-        | Logical::Sort { .. }
-        | Logical::Limit { .. }
+        Logical::Join {
+            kind,
+            cond,
+            left,
+            right,
+        } => {
+            let (left, right) = (left.get(), right.get());
+            let sides = JoinSides { left, right };
+            let (join, left, right) = all_three(
+                joining(alloc, *kind, cond, sides, estimates, settings),
+                planned(alloc, left, estimates, settings),
+                planned(alloc, right, estimates, settings),
+            )?;
+            joined(alloc, join, settings.exchange_partitions(), left, right)
+        }
+        Logical::Union { left, right } => {
+            let (left, right) = both(
+                planned(alloc, left.get(), estimates, settings),
+                planned(alloc, right.get(), estimates, settings),
+            )?;
+            united(alloc, left, right)
+        }
+        Logical::Limit { count, skip, child } => {
+            let from = planned(alloc, child.get(), estimates, settings)?;
+            limited(alloc, *count, *skip, from)
+        }
+        Logical::Sort { .. }
         | Logical::Empty { .. }
         | Logical::Held { .. }
         | Logical::HeldPartial { .. }
@@ -76,6 +104,7 @@ pub fn first_plan(
 ) -> Result<Plan, Memory>
     requires built { IsBuilt logical.now }
     requires estimates { Reaches (length estimates.now) logical.now }
+    requires limits { LimitsFit logical.now }
     ensures { IfOk result (λ p. Fits p logical.now estimates.now [] (values_of settings.now)) }
 {
     let planned = planned(alloc, logical, estimates, settings)?;

@@ -2,26 +2,15 @@
 
 ghost use Rattle.std.specs.Prelude.{◌≡◌, ℕ, length, IfOk};
 ghost use Rattle.aqe_fitting.specs.Placing as spec;
-ghost use Rattle.aqe_fitting.specs.Keys.{columns_from};
+ghost use Rattle.aqe_join_keys.specs.Keys.{columns_from};
 ghost use Rattle.aqe_planner.specs.Steps.{groups_behind, groups_here, groups_moved, groups_place, groups_plan};
 
-use crate::placing::{after_groups, column_at, keeps_groups};
-use crate::standing::{Standing, stands};
 use aqe_base::Memory;
 use aqe_boxes::both;
 use aqe_logical::{AggCalls, Exprs, Placement, copy_calls, copy_exprs, copy_sort_keys};
 use aqe_physical::{Plan, Target};
+use aqe_placing::{Standing, after_groups, columns_from, is_nothing, keeps_groups, stands};
 use std::alloc::Global;
-
-/// Whether a plan has no rows.
-fn is_nothing(plan: &Plan) -> bool
-    ensures { result ≡ spec.is_nothing plan.now }
-{
-    match plan {
-        Plan::Nothing { .. } => true,
-        _ => false,
-    }
-}
 
 /// Whether groups can be finished where their rows stand: rows with equal keys stand in one part, or there are none.
 fn serves(keys: &Exprs, from: &Standing) -> bool
@@ -69,17 +58,14 @@ fn grouped_here(alloc: Global, keys: &Exprs, calls: &AggCalls, plan: Plan) -> Re
     finished(alloc, keys, calls, plan)
 }
 
-/// The first columns, so many.
-#[tactic(auto, using(crate::proofs::Rows::columns_more))]
+/// The first columns, so many. More than 4,294,967,295 find no memory.
 fn first_columns(alloc: Global, count: usize) -> Result<Exprs, Memory>
     ensures { IfOk result (λ columns. columns ≡ columns_from 0 count) }
 {
-    let mut columns = Exprs::new(alloc);
-    'places: for place in 0..count {
-        let column = column_at(place)?;
-        columns.push(column)?;
+    match u32::try_from(count) {
+        Ok(count) => columns_from(alloc, 0, count),
+        Err(_) => Err(Memory),
     }
-    Ok(columns)
 }
 
 /// Where partial groups are moved to: by the hash of their key columns, or to one part without keys.

@@ -3,7 +3,7 @@
 
 mod first;
 mod groups;
-mod placing;
-mod standing;
+mod limits;
+mod unions;
 
 pub use first::first_plan;

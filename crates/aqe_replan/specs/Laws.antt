@@ -1,7 +1,8 @@
 -- What follows of the stages that can be made.
-use Rattle.std.specs.Prelude.{◌<◌, ◌^◌, false, ◌≡◌, List, ◌∷◌, All}
+use Rattle.std.specs.Prelude.{ℕ, ◌<◌, ◌≤◌, ◌*◌, ◌^◌, false, ◌≡◌, List, ◌∷◌, All}
 use Rattle.aqe_base.specs.declared.stage_id.StageId.{StageId}
 use Rattle.aqe_logical.specs.declared.plan.Logical.{Logical}
+use Rattle.aqe_logical.specs.Nodes.{leaf_count}
 use Rattle.aqe_settings.specs.declared.entry.Value.{Value}
 use Rattle.aqe_settings.specs.Values.{partitions}
 use Rattle.aqe_physical.specs.declared.sizes.Estimate.{Estimate}
@@ -32,11 +33,13 @@ OthersStayReady = (stages : List StageId) (number : StageId) (before next : Vers
     next.plan ≡ plan_after number making before.plan → next.has_result ≡ result_after making before.has_result →
     ready_of stages next ≡ others
 
--- a table has less than 2^32 files
-abbrev pub HasFewFiles : Estimate → Type 0
-HasFewFiles estimate = estimate.files < 2 ^ 32
+-- a table has at most so many files
+abbrev pub HasFewFiles : ℕ → Estimate → Type 0
+HasFewFiles most estimate = estimate.files ≤ most
 
--- the parts of a first plan can be numbered in 32 bits, if the files of each table and the parts of an exchange can
+-- The parts of a first plan can be numbered in 32 bits, if so many for each leaf of the query can: as many as no table has more files,
+-- and no exchange more parts.
 abbrev pub FirstPlansHaveFewParts : Type 0
-FirstPlansHaveFewParts = (plan : Plan) (x : Logical) (estimates : List Estimate) (sizes : List StageSize) (settings : List Value) →
-    Fits plan x estimates sizes settings → IsBuilt x → partitions settings < 2 ^ 32 → All HasFewFiles estimates → PartsFit plan
+FirstPlansHaveFewParts = (plan : Plan) (x : Logical) (estimates : List Estimate) (sizes : List StageSize) (settings : List Value) (most : ℕ) →
+    Fits plan x estimates sizes settings → IsBuilt x → 1 ≤ most → leaf_count x * most < 2 ^ 32 → partitions settings ≤ most →
+    All (HasFewFiles most) estimates → PartsFit plan

@@ -17,7 +17,8 @@ pub fn others_stay_ready()
     ensures { OthersStayReady }
 {}
 
-/// The parts of the first plan of a query can be numbered in 32 bits, if the files of each table and the parts of an exchange can.
+/// The parts of the first plan of a query can be numbered in 32 bits, if those that its leaves bring can: for each as many as no table
+/// has more files, and no exchange more parts.
 pub fn first_plans_have_few_parts()
     ensures { FirstPlansHaveFewParts }
 {}

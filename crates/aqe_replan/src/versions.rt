@@ -4,7 +4,7 @@ ghost use Rattle.std.specs.Prelude.{◌≡◌, ◌++◌, [], false, length, IfOk
 ghost use Rattle.aqe_settings.specs.Values.{values_of};
 ghost use Rattle.aqe_physical.specs.Counts.{PartsFit};
 ghost use Rattle.aqe_fitting.specs.Fits.{Fits};
-ghost use Rattle.aqe_planner.specs.Built.{IsBuilt, Reaches};
+ghost use Rattle.aqe_planner.specs.Built.{IsBuilt, LimitsFit, Reaches};
 ghost use Rattle.aqe_replan.specs.Seen.{all_standing, seen};
 ghost use Rattle.aqe_replan.specs.Versions as spec;
 ghost use Rattle.aqe_replan.specs.Versions.{ready_of, results, CanBeMade, IsAfter, taken, noted, plan_after, result_after};
@@ -38,6 +38,7 @@ impl Versions {
     ) -> Result<Versions, Memory>
         requires built { IsBuilt logical }
         requires estimates { Reaches (length estimates.now) logical }
+        requires limits { LimitsFit logical }
         ensures fits { IfOk result (λ v. Fits v.plan logical estimates.now [] (values_of settings.now)) }
         ensures logical { IfOk result (λ v. v.logical ≡ logical) }
         ensures begun { IfOk result (λ v. v.has_result ≡ false) }
