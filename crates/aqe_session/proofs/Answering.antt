@@ -108,7 +108,7 @@ module _ (query : Logical) (slots : Slots) (settings : List Value) (can : CanBeA
     alone = (refl, refl);
     range = range;
     begins = begins;
-    few = plan_few slots query can.loaded settings run.versions.plan range can.built begins.fits;
+    few = plan_few slots query can.loaded settings run.versions.plan range can.built can.formed begins.fits;
   }
 
   pub is_ready : (run : Run) → InRange settings → Begins query (estimates_of slots query) settings run → IsReady (tables_of slots) run

@@ -32,7 +32,7 @@ use Rattle.aqe_calm.proofs.CalmStates.{reads_many}
 use Rattle.aqe_calm.proofs.RestRuns.{rest_runs_calm, results_rows}
 use Rattle.aqe_calm.proofs.ResultCells.{result_cells, all_single}
 use Rattle.aqe_calm.proofs.Served.{births_at}
-use Rattle.aqe_steps.proofs.Cells.{cells_many}
+use Rattle.aqe_calm.proofs.HeldCells.{cells_many}
 use Rattle.aqe_steps.specs.declared.run.Run.{Run}
 use Rattle.aqe_session.specs.Finished as spec
 use Rattle.aqe_session.specs.Finished.{CanFinish, ResultIsKept, first_cell, kept_at, all_filled, filled, maps_of, maps_in, rows_at, result_rows}

@@ -25,9 +25,9 @@ use Rattle.aqe_estimates.specs.LoadedTables.{files_of as files_in, tables_of}
 use Rattle.aqe_fitting.specs.Known.{files_of}
 use Rattle.aqe_fitting.specs.Fits.{Fits}
 use Rattle.aqe_fit_laws.specs.Leaves.{IsPlannedYet, ScanIsRight, ScansRight}
-use Rattle.aqe_planner.specs.Built.{IsBuilt, IsReached, Reaches}
+use Rattle.aqe_planner.specs.Built.{is_built, IsBuilt, IsReached, Reaches}
 use Rattle.aqe_replan.specs.Laws.{HasFewFiles}
-use Rattle.aqe_replan.proofs.Parts.{few_parts}
+use Rattle.aqe_replan.proofs.Parts.{few_parts, both_left, both_right}
 use Rattle.aqe_journal.specs.Asked.{Asked}
 use Rattle.aqe_journal.specs.Laws.{IsSound}
 use Rattle.aqe_estimates.specs.Estimates.{HasSomeFiles, HasFiles, not_scanned, estimate_in, reach, estimated, estimates_of}
@@ -42,10 +42,10 @@ planned_each (Scan table schema) b = tt
 planned_each (filtered condition child) b = (tt, planned_each child b)
 planned_each (projected items schema child) b = (tt, planned_each child b)
 planned_each (aggregated keys calls schema child) b = (tt, planned_each child b)
-planned_each (joined kind condition left right) b = absurd (clash b)
-planned_each (united left right) b = absurd (clash b)
+planned_each (joined kind condition left right) b = (tt, planned_each left (both_left (is_built left) (is_built right) b), planned_each right (both_right (is_built left) (is_built right) b))
+planned_each (united left right) b = (tt, planned_each left (both_left (is_built left) (is_built right) b), planned_each right (both_right (is_built left) (is_built right) b))
 planned_each (sorted keys child) b = absurd (clash b)
-planned_each (limited count skip child) b = absurd (clash b)
+planned_each (limited count skip child) b = (tt, planned_each child b)
 planned_each (Empty schema) b = absurd (clash b)
 planned_each (Held stage place schema) b = absurd (clash b)
 planned_each (HeldPartial stage calls schema) b = absurd (clash b)
@@ -57,14 +57,18 @@ closed_each (Scan table schema) b = tt
 closed_each (filtered condition child) b = (tt, closed_each child b)
 closed_each (projected items schema child) b = (tt, closed_each child b)
 closed_each (aggregated keys calls schema child) b = (tt, closed_each child b)
-closed_each (joined kind condition left right) b = absurd (clash b)
-closed_each (united left right) b = absurd (clash b)
+closed_each (joined kind condition left right) b = (tt, closed_each left (both_left (is_built left) (is_built right) b), closed_each right (both_right (is_built left) (is_built right) b))
+closed_each (united left right) b = (tt, closed_each left (both_left (is_built left) (is_built right) b), closed_each right (both_right (is_built left) (is_built right) b))
 closed_each (sorted keys child) b = absurd (clash b)
-closed_each (limited count skip child) b = absurd (clash b)
+closed_each (limited count skip child) b = (tt, closed_each child b)
 closed_each (Empty schema) b = absurd (clash b)
 closed_each (Held stage place schema) b = absurd (clash b)
 closed_each (HeldPartial stage calls schema) b = absurd (clash b)
 closed_each (sampled stage child) b = absurd (clash b)
+
+-- the most parts of an exchange, which are more than the files of a table
+abbrev most_parts : ℕ
+most_parts = 10000
 
 -- a number that is in a list
 abbrev IsIn : List ℕ → ℕ → Type 0
@@ -188,10 +192,10 @@ module _ (slots : Slots) (query : Logical) (loaded : All (HasFiles slots) (scans
   reached_at (HeldPartial stage calls schema) all = tt
   reached_at (sampled stage child) all = tt
 
-  few_at : (n : ℕ) → HasFewFiles (estimated slots (scans query) n)
+  few_at : (n : ℕ) → HasFewFiles most_parts (estimated slots (scans query) n)
   few_at n = elim (cases_Bool (list_any (λ table. table == n) (scans query))) [
-    | inl among ↦ subst (λ b. HasFewFiles (cond b (estimate_in (table_at slots n)) not_scanned)) (sym among) (at (table_at slots n) (member (scans query) loaded among))
-    | inr none ↦ subst (λ b. HasFewFiles (cond b (estimate_in (table_at slots n)) not_scanned)) (sym none) (omega arith)
+    | inl among ↦ subst (λ b. HasFewFiles most_parts (cond b (estimate_in (table_at slots n)) not_scanned)) (sym among) (at (table_at slots n) (member (scans query) loaded among))
+    | inr none ↦ subst (λ b. HasFewFiles most_parts (cond b (estimate_in (table_at slots n)) not_scanned)) (sym none) (omega arith)
   ]
     where
       member : (xs : List ℕ) → All (HasFiles slots) xs → IsIn xs n → HasFiles slots n
@@ -201,19 +205,19 @@ module _ (slots : Slots) (query : Logical) (loaded : All (HasFiles slots) (scans
         | inr not_so ↦ member xs (All-tail (HasFiles slots) x xs all) (ap (λ b. b || list_any (λ y. y == n) xs) (sym not_so) ∙ i)
       ]
 
-      at : (o : Option Table) → IsSomeAnd o HasSomeFiles → HasFewFiles (estimate_in o)
+      at : (o : Option Table) → IsSomeAnd o HasSomeFiles → HasFewFiles most_parts (estimate_in o)
       at None s = absurd s
       at (Some table) s = let most = s.1 in omega (arith, most)
 
-  all_few : (ns : List ℕ) → All HasFewFiles (map (estimated slots (scans query)) ns)
-  all_few [] = All-nil HasFewFiles
-  all_few (n ∷ ns) = All-cons HasFewFiles (estimated slots (scans query) n) (map (estimated slots (scans query)) ns) (few_at n) (all_few ns)
+  all_few : (ns : List ℕ) → All (HasFewFiles most_parts) (map (estimated slots (scans query)) ns)
+  all_few [] = All-nil (HasFewFiles most_parts)
+  all_few (n ∷ ns) = All-cons (HasFewFiles most_parts) (estimated slots (scans query) n) (map (estimated slots (scans query)) ns) (few_at n) (all_few ns)
 
   -- the first plan has parts that can be numbered
-  pub plan_few : (settings : List Value) (plan : Plan) → InRange settings → IsBuilt query → Fits plan query estimates [] settings → PartsFit plan
-  plan_few settings plan range built fits =
-      let most = (partitions_in_range settings range).1 in
-      few_parts plan query estimates [] settings fits built (omega (arith, most)) (all_few (range_with_len 0 (reach (scans query))))
+  pub plan_few : (settings : List Value) (plan : Plan) → InRange settings → IsBuilt query → WellFormed query → Fits plan query estimates [] settings → PartsFit plan
+  plan_few settings plan range built formed fits =
+      let leaves = formed.1 in
+      few_parts plan query estimates [] settings most_parts fits built (omega arith) (omega (arith, leaves)) (partitions_in_range settings range).1 (all_few (range_with_len 0 (reach (scans query))))
 
   -- the estimates reach to each table that is scanned
   pub reaches : Reaches (length estimates) query

@@ -15,7 +15,7 @@ use Rattle.aqe_physical.specs.Counts.{PartsFit}
 use Rattle.aqe_stages.specs.Stages.{Stage, Stages}
 use Rattle.aqe_stages.specs.Parts.{cells, parts, given_by, out}
 use Rattle.aqe_stages.specs.Runnable.{reducers_of}
-use Rattle.aqe_task.specs.Tasks.{IsKept, IsServedTask, GivesTask}
+use Rattle.aqe_task.specs.Tasks.{IsServedTask, GivesTask}
 use Rattle.aqe_scheduler.specs.declared.fate.Fate.TheVariants as fate
 use Rattle.aqe_scheduler.specs.History.{Step, Happens, Happened}
 use Rattle.aqe_scheduler.specs.Looks.{counted, whole}
@@ -199,11 +199,8 @@ module _ (asked : Asked) (first : Plan) (now : State) (stage : StageId) (task : 
     noted_there : (st : Stage) → slice_get now.stages stage.0 ≡ Some st → slice_get run.stages.items stage.0 ≡ Some (bare_note now stage.0 st)
     noted_there st is = ap (λ notes. slice_get notes stage.0) shows.stages ∙ note_of (bare_note now) now.stages stage.0 ∙ ap (option_map (bare_note now stage.0)) is
 
-    all_kept : (s t : ℕ) → counted h s t ≡ true → IsKept asked.tables now.stages run.outputs s t
-    all_kept s t is = shows.outputs s t ∙ ap (λ b. cond b (Some (slice_index_or (cells asked.tables now.stages s) t [])) None) is
-
     task_served : (st : Stage) → slice_get now.stages stage.0 ≡ Some st → IsServedTask asked.tables now.stages run.outputs st.kind st.body task.0
-    task_served st is = served asked first now place st run.outputs c m is all_kept
+    task_served st is = served asked first now place st run.outputs c m is shows.outputs
 
     gives_cells : (st : Stage) (made : List CellData) → slice_get now.stages stage.0 ≡ Some st → GivesTask asked.tables run.outputs st.kind st.body task.0 made →
         made ≡ slice_index_or (cells asked.tables now.stages stage.0) task.0 []

@@ -2,7 +2,7 @@
 
 ghost use Rattle.std.specs.Prelude.{◌≡◌, ◌∷◌, [], length, IfOk};
 ghost use Rattle.aqe_settings.specs.Values.{values_of};
-ghost use Rattle.aqe_planner.specs.Built.{IsBuilt, Reaches};
+ghost use Rattle.aqe_planner.specs.Built.{IsBuilt, LimitsFit, Reaches};
 ghost use Rattle.aqe_steps.specs.Begun.{Begins};
 
 use crate::run::Run;
@@ -43,6 +43,7 @@ pub fn begin(
 ) -> Result<Run, Memory>
     requires built { IsBuilt logical }
     requires estimates { Reaches (length estimates.now) logical }
+    requires limits { LimitsFit logical }
     ensures { IfOk result (Begins logical estimates.now (values_of settings.now)) }
 {
     let versions = Versions::first(alloc, logical, estimates, settings)?;
