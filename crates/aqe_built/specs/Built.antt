@@ -1,6 +1,7 @@
--- Which scripts are carried out so far: those that have no form of specs/Forms.antt. So a query may have any select list,
--- FROM with one source, a table or a query, WHERE, GROUP BY and HAVING; a table may have no OPTIONS; there is no SET.
-use Rattle.std.specs.Prelude.{Bool, true, false, List, [], ◌∷◌}
+-- Which scripts are carried out so far: those that have no form of specs/Forms.antt. So a query may have any select list, DISTINCT,
+-- FROM with any sources and joins, WHERE, GROUP BY, HAVING, UNION, LIMIT and OFFSET, and no ORDER BY; a table may have no OPTIONS;
+-- there is no SET.
+use Rattle.std.specs.Prelude.{Bool, List}
 use Rattle.std.specs.List.{list_all}
 use Rattle.aqe_trees.specs.declared.query.QueryTree.{QueryTree}
 use Rattle.aqe_trees.specs.declared.query.UnionTree.{UnionTree}
@@ -30,12 +31,6 @@ is_joined_built tree = is_empty (of_joined tree)
 
 abbrev pub is_source_built : SourceTree → Bool
 is_source_built tree = is_empty (of_source tree)
-
--- what that says of FROM: there is none, or one source, which is carried out
-abbrev pub is_from_built : List Bool → Bool
-is_from_built [] = true
-is_from_built (one ∷ []) = one
-is_from_built (one ∷ more) = false
 
 -- statements, each by itself
 abbrev pub is_statement_built : Stmt → Bool

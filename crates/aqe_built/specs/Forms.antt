@@ -1,7 +1,5 @@
--- The forms of a script that are not carried out so far, in the order in which they are read: SET, OPTIONS, DISTINCT, JOIN,
--- UNION, ORDER BY, LIMIT and OFFSET.
-use Rattle.std.specs.Prelude.{ℕ, Bool, true, false, not, List, [], ◌∷◌, ◌++◌, flat_map, Option, Some, None, codes}
-use Rattle.std.specs.Option.{is_some}
+-- The forms of a script that are not carried out so far, in the order in which they are read: SET, OPTIONS and ORDER BY.
+use Rattle.std.specs.Prelude.{ℕ, Bool, true, false, not, List, [], ◌∷◌, ◌++◌, map, flat_map, Option, Some, None, codes}
 use Rattle.aqe_trees.specs.declared.query.QueryTree.{QueryTree}
 use Rattle.aqe_trees.specs.declared.query.UnionTree.{UnionTree}
 use Rattle.aqe_trees.specs.declared.query.CoreTree.{CoreTree}
@@ -20,12 +18,7 @@ use Rattle.aqe_built.specs.declared.form.Form.TheVariants as form
 abbrev pub text_of : Form → List ℕ
 text_of form.Set = codes "SET"
 text_of form.Options = codes "OPTIONS"
-text_of form.Distinct = codes "DISTINCT"
-text_of form.Join = codes "JOIN"
-text_of form.Union = codes "UNION"
 text_of form.OrderBy = codes "ORDER BY"
-text_of form.Limit = codes "LIMIT"
-text_of form.Offset = codes "OFFSET"
 
 -- the first of some forms
 abbrev pub first : List Form → Option Form
@@ -37,20 +30,18 @@ abbrev pub given : Bool → Form → List Form
 given true one = one ∷ []
 given false one = []
 
--- the items of FROM, each with its own forms: a comma between two joins them
-abbrev pub from_forms : List (List Form) → List Form
-from_forms [] = []
-from_forms (one ∷ more) = one ++ flat_map (λ next. form.Join ∷ next) more
+-- those of parts, one part after the other
+abbrev pub all_forms : List (List Form) → List Form
+all_forms parts = flat_map (λ part. part) parts
 
 -- those of a query, from those of its parts
 abbrev pub forms : QueryForms (List Form) (List Form) (List Form) (List Form) (List Form)
 forms = record {
-  query = λ body sorts limit offset.
-      body ++ given (not (is_empty sorts)) form.OrderBy ++ given (is_some limit) form.Limit ++ given (is_some offset) form.Offset;
-  union = λ core rest. core ++ flat_map (λ next. form.Union ∷ next.1) rest;
+  query = λ body sorts limit offset. body ++ given (not (is_empty sorts)) form.OrderBy;
+  union = λ core rest. core ++ flat_map (λ next. next.1) rest;
   paren = λ query. query;
-  select = λ distinct list from filter group having. given distinct form.Distinct ++ from_forms from;
-  joined = λ source steps. source ++ flat_map (λ step. form.Join ∷ step.source) steps;
+  select = λ distinct list from filter group having. all_forms from;
+  joined = λ source steps. source ++ all_forms (map (λ step. step.source) steps);
   table = λ name alias. [];
   subquery = λ query alias. query;
 }

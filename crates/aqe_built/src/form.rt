@@ -9,14 +9,7 @@ pub enum Form {
     Set,
     /// OPTIONS of a table.
     Options,
-    Distinct,
-    /// JOIN of any kind, or a comma between the items of FROM.
-    Join,
-    /// UNION, also UNION ALL.
-    Union,
     OrderBy,
-    Limit,
-    Offset,
 }
 
 impl Form {
@@ -27,12 +20,7 @@ impl Form {
         match self {
             Form::Set => "SET",
             Form::Options => "OPTIONS",
-            Form::Distinct => "DISTINCT",
-            Form::Join => "JOIN",
-            Form::Union => "UNION",
             Form::OrderBy => "ORDER BY",
-            Form::Limit => "LIMIT",
-            Form::Offset => "OFFSET",
         }
     }
 }

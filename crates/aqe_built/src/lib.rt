@@ -2,11 +2,9 @@
 #![tactic(auto)]
 
 mod form;
-mod parts;
 mod query;
 mod script;
 
 pub use form::Form;
-pub use parts::{body, clauses, only_core, only_joined, only_source};
 pub use query::is_query_built;
 pub use script::form_not_built;

@@ -1,13 +1,14 @@
 //! The first form of a query that is not carried out so far. Each function here answers for its part of the tree.
 
-ghost use Rattle.std.specs.Prelude.{◌≡◌, map};
+ghost use Rattle.std.specs.Prelude.{◌≡◌, map, flat_map};
 ghost use Rattle.aqe_built.specs.Built as spec;
-ghost use Rattle.aqe_built.specs.Forms.{first, from_forms, of_query, of_union, of_core, of_select, of_joined, of_source};
+ghost use Rattle.aqe_built.specs.Forms.{first, all_forms, forms, of_query, of_union, of_core, of_select, of_joined, of_source};
+ghost use Rattle.aqe_rules.specs.QueryTrees.{made_of_step};
 ghost use Rattle.aqe_rules.specs.Selects as select;
 
 use crate::form::Form;
-use aqe_script::parts::{joined_parts, query_parts, select_parts, union_parts};
-use aqe_trees::{CoreTree, JoinedTree, QueryTree, SelectTree, SourceTree, UnionTree};
+use aqe_script::parts::{joined_parts, query_parts, select_parts, step_parts, union_parts};
+use aqe_trees::{CoreTree, JoinStep, JoinedTree, QueryTree, SelectTree, SourceTree, UnionTree};
 
 /// Whether there is no item.
 pub(crate) fn is_empty<T>(items: &[T]) -> bool
@@ -28,11 +29,8 @@ pub fn is_query_built(query: &QueryTree) -> bool
 pub(crate) fn form_of_query(query: &QueryTree) -> Option<Form>
     ensures { result ≡ first (of_query query.now) }
 {
-    let (body, sorts, limit, offset) = query_parts(query);
-    form_of_union(body)
-        .or((!is_empty(sorts)).then_some(Form::OrderBy))
-        .or(limit.is_some().then_some(Form::Limit))
-        .or(offset.is_some().then_some(Form::Offset))
+    let (body, sorts, _, _) = query_parts(query);
+    form_of_union(body).or((!is_empty(sorts)).then_some(Form::OrderBy))
 }
 
 /// That of cores, between which UNION stands.
@@ -41,7 +39,20 @@ fn form_of_union(tree: &UnionTree) -> Option<Form>
     ensures { result ≡ first (of_union tree.now) }
 {
     let (core, rest) = union_parts(tree);
-    form_of_core(core).or((!is_empty(rest)).then_some(Form::Union))
+    form_of_core(core).or(form_of_cores(rest))
+}
+
+/// That of the cores behind UNION.
+#[cycle(query)]
+fn form_of_cores(cores: &[(bool, CoreTree)]) -> Option<Form>
+    ensures { result ≡ first (flat_map (λ core. of_core core.1) cores.now) }
+{
+    'cores: for next in cores {
+        if let Some(form) = form_of_core(&next.1) {
+            return Some(form);
+        }
+    }
+    None
 }
 
 /// That of a core.
@@ -60,17 +71,21 @@ fn form_of_core(tree: &CoreTree) -> Option<Form>
 fn form_of_select(tree: &SelectTree) -> Option<Form>
     ensures { result ≡ first (of_select tree.now) }
 {
-    let (distinct, _, from, _, _, _) = select_parts(tree);
-    distinct.then_some(Form::Distinct).or(form_of_from(from))
+    let (_, _, from, _, _, _) = select_parts(tree);
+    form_of_from(from)
 }
 
-/// That of the items of FROM, between which a comma stands.
+/// That of the items of FROM.
 #[cycle(query)]
 fn form_of_from(items: &[JoinedTree]) -> Option<Form>
-    ensures { result ≡ first (from_forms (map of_joined items.now)) }
+    ensures { result ≡ first (all_forms (map of_joined items.now)) }
 {
-    let (one, more) = items.split_first()?;
-    form_of_joined(one).or((!is_empty(more)).then_some(Form::Join))
+    'items: for next in items {
+        if let Some(form) = form_of_joined(next) {
+            return Some(form);
+        }
+    }
+    None
 }
 
 /// That of joined sources.
@@ -79,7 +94,21 @@ fn form_of_joined(tree: &JoinedTree) -> Option<Form>
     ensures { result ≡ first (of_joined tree.now) }
 {
     let (source, rest) = joined_parts(tree);
-    form_of_source(source).or((!is_empty(rest)).then_some(Form::Join))
+    form_of_source(source).or(form_of_steps(rest))
+}
+
+/// That of sources that are joined to what stands before them.
+#[cycle(query)]
+fn form_of_steps(steps: &[JoinStep]) -> Option<Form>
+    ensures { result ≡ first (all_forms (map (λ step. (made_of_step forms step).source) steps.now)) }
+{
+    'steps: for step in steps {
+        let (_, source, _) = step_parts(step);
+        if let Some(form) = form_of_source(source) {
+            return Some(form);
+        }
+    }
+    None
 }
 
 /// That of a source.

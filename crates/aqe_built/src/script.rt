@@ -21,8 +21,7 @@ fn form_of_statement(statement: &Stmt) -> Option<Form>
 
 /// The first form of a script that is not carried out so far, in the order in which it is read; none where all are.
 ///
-/// Within a SELECT that order is DISTINCT and then FROM; behind it stand UNION, ORDER BY, LIMIT and OFFSET. What stands in
-/// parentheses is read where they stand.
+/// ORDER BY is read behind what it orders. What stands in parentheses, in FROM too, is read where they stand.
 pub fn form_not_built(script: &Script) -> Option<Form>
     ensures first { result ≡ first (of_script script.now) }
     ensures built { MatchOption result (IsTrue (is_script_built script.now)) (λ form. IsFalse (is_script_built script.now)) }

@@ -10,8 +10,10 @@ use Rattle.aqe_logical.specs.Answers.{Row, no_stage}
 use Rattle.aqe_logical.specs.Nodes.{scans}
 use Rattle.aqe_logical.specs.WellFormed.{Fits, HaveWidth, WellFormed}
 use Rattle.aqe_logical.proofs.Nodes.{Each, all_nodes}
-use Rattle.aqe_laws.specs.Scans.{HasItsColumns, ScansHaveTheirColumns, columns_of_tables}
-use Rattle.aqe_planner.specs.Built.{IsBuilt}
+use Rattle.aqe_laws.specs.Scans.{HasItsColumns, ScansHaveTheirColumns, columns_of_tables, scanned_tables}
+use Rattle.aqe_endings.proofs.Endings.{both_left, both_right}
+use Rattle.aqe_physical.proofs.Walk.{all_left, all_right}
+use Rattle.aqe_planner.specs.Built.{is_built, IsBuilt}
 use Rattle.aqe_tables.specs.declared.catalog.CatalogTable.{CatalogTable}
 use Rattle.aqe_tables.specs.declared.loaded.Table.{Table}
 use Rattle.aqe_tables.specs.Load.{AreWide}
@@ -89,10 +91,14 @@ module _ (catalog : List CatalogTable) (slots : Slots) (shaped : AreShaped catal
   wide_each (filtered condition child) b h = (tt, wide_each child b h)
   wide_each (projected items schema child) b h = (tt, wide_each child b h)
   wide_each (aggregated keys calls schema child) b h = (tt, wide_each child b h)
-  wide_each (joined kind condition left right) b h = absurd (clash b)
-  wide_each (united left right) b h = absurd (clash b)
+  wide_each (joined kind condition left right) b h = (tt,
+      wide_each left (both_left (is_built left) (is_built right) b) (all_left (HasItsColumns (seen catalog)) (scanned_tables left) (scanned_tables right) h),
+      wide_each right (both_right (is_built left) (is_built right) b) (all_right (HasItsColumns (seen catalog)) (scanned_tables left) (scanned_tables right) h))
+  wide_each (united left right) b h = (tt,
+      wide_each left (both_left (is_built left) (is_built right) b) (all_left (HasItsColumns (seen catalog)) (scanned_tables left) (scanned_tables right) h),
+      wide_each right (both_right (is_built left) (is_built right) b) (all_right (HasItsColumns (seen catalog)) (scanned_tables left) (scanned_tables right) h))
   wide_each (sorted keys child) b h = absurd (clash b)
-  wide_each (limited count skip child) b h = absurd (clash b)
+  wide_each (limited count skip child) b h = (tt, wide_each child b h)
   wide_each (Empty schema) b h = absurd (clash b)
   wide_each (Held stage place schema) b h = absurd (clash b)
   wide_each (HeldPartial stage calls schema) b h = absurd (clash b)
