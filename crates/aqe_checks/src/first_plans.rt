@@ -144,7 +144,7 @@ fn shown(alloc: Global, plan: Result<Plan, Memory>) -> Result<String, Fail> {
 }
 
 /// The first plan of a query as a text.
-#[tactic(auto, using(crate::proofs::Planning::built_of, crate::proofs::Planning::reached_of))]
+#[tactic(auto, using(crate::proofs::Planning::built_of, crate::proofs::Planning::reached_of, crate::proofs::Planning::limits_of))]
 fn plan_shown(
     alloc: Global,
     query: &Logical,
