@@ -1,193 +1,19 @@
 #!/usr/bin/env python3
-"""Computes what the examples with groups print, from the rules alone; it shares nothing with the program.
+"""Computes what the examples with groups, joins, unions and limits print, from the rules alone; it shares nothing with the program.
 
 Usage: examples/expected.py EXAMPLE     prints the example's expected.txt, or its cases.txt
        examples/expected.py --check     compares what it computes with the files of all its examples
        examples/expected.py --write     writes them
 
-The rows of a query stand in parts: those of a table are its files, in byte order of their names. GROUP BY makes 200 new parts, and
-each group stands in the part that its key has by Spark's Murmur3. In a part, groups stand as their keys come first in the rows
-below, part by part. The result is the rows of all parts, one after the other. Where the rows below are in one part alone, or are
-placed by some of the keys already, the groups stay in their parts. Without keys there is one row, whatever is below.
+The rules stand in examples/rules.py.
 """
-import pathlib
 import sys
 
-HERE = pathlib.Path(__file__).resolve().parent
-PARTS, SEED = 200, 42
+sys.dont_write_bytecode = True
 
-
-class Big(int):
-    """A BIGINT; a plain int is an INT."""
-
-
-# Spark's Murmur3, in words of 32 bits
-
-
-def word(number):
-    return number & 0xFFFFFFFF
-
-
-def rotated(number, bits):
-    return word(number << bits | number >> 32 - bits)
-
-
-def mixed(running, block):
-    block = word(rotated(word(block * 0xCC9E2D51), 15) * 0x1B873593)
-    return word(rotated(running ^ block, 13) * 5 + 0xE6546B64)
-
-
-def finished(running, length):
-    running ^= length
-    running = word((running ^ running >> 16) * 0x85EBCA6B)
-    running = word((running ^ running >> 13) * 0xC2B2AE35)
-    return running ^ running >> 16
-
-
-def blocks_of(value):
-    """The words that a value mixes, and its length in bytes."""
-    if isinstance(value, str):
-        content = value.encode()
-        whole = len(content) // 4 * 4
-        blocks = [int.from_bytes(content[i : i + 4], "little") for i in range(0, whole, 4)]
-        # each byte behind the whole words is a word of its own, and has a sign
-        return blocks + [word(byte - 256 if byte > 127 else byte) for byte in content[whole:]], len(content)
-    if isinstance(value, Big):
-        return [word(value), word(value >> 32)], 8
-    return [word(int(value))], 4
-
-
-def murmur(key):
-    """The hash of a key row, from -2**31 to 2**31 - 1. NULL leaves it as it is."""
-    running = SEED
-    for value in key:
-        if value is not None:
-            blocks, length = blocks_of(value)
-            for block in blocks:
-                running = mixed(running, block)
-            running = finished(running, length)
-    return running - 2**32 if running >= 2**31 else running
-
-
-def place_of(key):
-    return murmur(key) % PARTS
-
-
-# rows in parts
-
-
-def table(folder, *types):
-    """The rows of a table, file by file."""
-    files = sorted(path for path in (HERE / folder).iterdir() if not path.name.startswith((".", "_")))
-    return [[row_of(line, types) for line in path.read_text(encoding="utf-8").splitlines() if line] for path in files]
-
-
-def row_of(line, types):
-    fields = line.split(",")
-    return tuple(kind(field) if field else None for kind, field in zip(types, fields + [""] * len(types)))
-
-
-def flag(field):
-    return {"true": True, "false": False}[field]
-
-
-def where(parts, condition):
-    return [[row for row in part if condition(*row)] for part in parts]
-
-
-def select(parts, items):
-    return [[items(*row) for row in part] for part in parts]
-
-
-def groups_of(rows, key, calls):
-    """The groups of rows as their keys come first, each its key and then the calls."""
-    groups = {}
-    for row in rows:
-        groups.setdefault(key(*row), []).append(row)
-    return [group + tuple(call(members) for call in calls) for group, members in groups.items()]
-
-
-def group(parts, key, *calls):
-    """Groups by a key, placed by it."""
-    rows = groups_of([row for part in parts for row in part], key, calls)
-    width = len(calls)
-    placed = [[] for _ in range(PARTS)]
-    for row in rows:
-        placed[place_of(row[: len(row) - width])].append(row)
-    return placed
-
-
-def group_in_place(parts, key, *calls):
-    """Groups by a key where no group is in two parts."""
-    return [groups_of(part, key, calls) for part in parts]
-
-
-def whole(parts, *calls):
-    """The one row of a query without keys."""
-    rows = [row for part in parts for row in part]
-    return [[tuple(call(rows) for call in calls)]]
-
-
-ONE_ROW = [[()]]
-
-# calls over the rows of a group; NULLs do not count, and nothing but NULLs gives NULL
-
-
-def values(rows, argument):
-    return [value for value in (argument(*row) for row in rows) if value is not None]
-
-
-def order(value):
-    return value.encode() if isinstance(value, str) else value
-
-
-def count(argument=lambda *row: 1):
-    return lambda rows: Big(len(values(rows, argument)))
-
-
-def total(argument):
-    def call(rows):
-        found = values(rows, argument)
-        return Big((sum(found) + 2**63) % 2**64 - 2**63) if found else None
-
-    return call
-
-
-def least(argument):
-    return lambda rows: min(values(rows, argument), key=order, default=None)
-
-
-def most(argument):
-    return lambda rows: max(values(rows, argument), key=order, default=None)
-
-
-# texts
-
-
-def field_of(value):
-    if value is None:
-        return "\\N"
-    if isinstance(value, bool):
-        return "true" if value else "false"
-    text = str(value)
-    for plain, escaped in (("\\", "\\\\"), ("\t", "\\t"), ("\n", "\\n"), ("\r", "\\r")):
-        text = text.replace(plain, escaped)
-    return text
-
-
-def result(names, parts):
-    lines = ["\t".join(names.split())] + ["\t".join(map(field_of, row)) for part in parts for row in part]
-    return "".join(f"{line}\n" for line in lines + ["\\."])
-
-
-def case_of(case):
-    """A comment, or a query with the text of its result, as cases.txt has them."""
-    if isinstance(case, str):
-        return f"# {case}\n"
-    query, names, parts = case
-    lines = result(names, parts).splitlines()
-    return "> 0\n" + "".join(f"| {line}\n" for line in lines) + query + "\n\n"
-
+import joins  # noqa: E402
+import unions  # noqa: E402
+from rules import *
 
 # the examples
 
@@ -426,14 +252,47 @@ def sums():
     ]
 
 
-ONE_RUN = {"sales-by-region": sales_by_region, "having": having, "grouped-subquery": grouped_subquery}
+def distinct():
+    g, h = table("tables/g", int, int), table("tables/h", int, int)
+    s, z = table("tables/s", int), table("tables/z", int)
+    every = lambda *row: row
+    k = lambda k, v: (k,)
+    by_k = group(h, k, count())
+    pairs = join("cross", Side(h, 2), Side(s, 1), None, lambda k, v, a: True)
+    return [
+        "each row once, as groups by all columns are; NULL is a value like another",
+        ("SELECT DISTINCT k FROM h", "k", group(h, k)),
+        ("SELECT DISTINCT k FROM g", "k", group(g, k)),
+        ("SELECT DISTINCT * FROM h", "k v", group(h, every)),
+        ("SELECT DISTINCT v, k FROM h", "v k", group(select(h, lambda k, v: (v, k)), every)),
+        ("SELECT DISTINCT a % 2 AS odd FROM s", "odd", group(select(s, lambda a: (a % 2,)), every)),
+        ("SELECT DISTINCT 'same' AS word FROM s", "word", group(select(s, lambda a: ("same",)), every)),
+        ("SELECT DISTINCT NULL", "_c0", group_in_place([[(None,)]], every)),
+        ("SELECT DISTINCT a FROM z", "a", []),
+        ("SELECT ALL k FROM h", "k", select(h, k)),
+        "of groups, beside calls, and below them",
+        ("SELECT DISTINCT count(*) FROM h GROUP BY k", "_c0", group(select(by_k, lambda k, n: (n,)), every)),
+        ("SELECT DISTINCT k FROM (SELECT k, count(*) AS n FROM h GROUP BY k) q", "k", group_in_place(select(by_k, lambda k, n: (k,)), every)),
+        ("SELECT count(*) FROM (SELECT DISTINCT k FROM h) q", "_c0", whole(group(h, k), count())),
+        ("SELECT DISTINCT count(*), max(v) FROM h", "_c0 _c1", group_in_place(whole(h, count(), most(lambda k, v: v)), every)),
+        "of joins",
+        ("SELECT DISTINCT k FROM h, s", "k", group_in_place(select(pairs.parts, lambda k, v, a: (k,)), every)),
+        "HAVING stands below it",
+        ("SELECT DISTINCT k FROM h GROUP BY k, v HAVING v > 5", "k", group(select(where(group(h, every), lambda k, v: v > 5), k), every)),
+    ]
+
+
+ONE_RUN = {"sales-by-region": sales_by_region, "having": having, "grouped-subquery": grouped_subquery, **joins.ONE_RUN, **unions.ONE_RUN}
 CASES = {
+    **joins.CASES,
+    **unions.CASES,
     "groups": groups,
     "empty-groups": empty_groups,
     "null-groups": null_groups,
     "text-keys": text_keys,
     "placed-keys": placed_keys,
     "sums": sums,
+    "distinct": distinct,
 }
 
 
