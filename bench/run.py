@@ -3,7 +3,8 @@
 
 Usage: bench/run.py [--program PATH] [--rows N] [--runs N] [--twice] [--plot] [QUERY ..]
 
-QUERY is a name of bench/queries, without `.sql`; no name means all of them. For each query it prints the wall time and the
+QUERY is a name of bench/queries, without `.sql`; no name means all of them. Where sqlite3 has to be asked in other words, these
+stand in `NAME.sqlite`. For each query it prints the wall time and the
 peak memory of both, and the ratio of the times. Of several runs (three, or as --runs says) the fastest counts. Its time goes
 from the start of a program to its end, and so with the reading of the tables.
 
@@ -32,9 +33,11 @@ REGIONS = ["north", "northeast", "east", "southeast", "south", "southwest", "wes
 TABLES = {
     "customers": "id INT, region STRING, level INT",
     "orders": "id INT, customer INT, region STRING, item INT, amount BIGINT",
+    "payments": "orderid INT, day INT, paid BIGINT",
+    "visits": "id INT, customer INT, page INT",
 }
-# at most so much of sqlite3's time, so many MB, and so much more time for twice the rows
-RATIO, MEMORY, FACTOR = 0.5, 600, 2.1
+# at most so much of sqlite3's time, so many MB (of a join more), and so much more time for twice the rows
+RATIO, MEMORY, MEMORY_OF_JOINS, FACTOR = 0.5, 600, 1500, 2.1
 
 
 class Failed(Exception):
@@ -58,6 +61,21 @@ def orders(numbers):
         yield f"{number},{customer},{region_of(customer)},{int(chance() * ITEMS)},{int(chance() * 100_000) - 5_000}\n"
 
 
+def payments(numbers):
+    """A payment for each order of these numbers, in another order than theirs."""
+    chance = random.Random(numbers.start + 1).random
+    for number in random.Random(numbers.start + 2).sample(numbers, len(numbers)):
+        yield f"{number},{int(chance() * 365)},{int(chance() * 100_000)}\n"
+
+
+def visits(numbers):
+    """Visits of customers, of which one customer makes 30 of 100."""
+    chance = random.Random(numbers.start + 3).random
+    for number in numbers:
+        customer = 7 if chance() < 0.3 else int(chance() * CUSTOMERS)
+        yield f"{number},{customer},{int(chance() * 1_000)}\n"
+
+
 def make_file(path, lines):
     path.parent.mkdir(parents=True, exist_ok=True)
     unfinished = path.with_name("_unfinished")
@@ -73,7 +91,8 @@ def tables_of(rows):
         print(f"making tables of {rows:,} orders under {room}", file=sys.stderr)
         for part in range(FILES):
             numbers = range(part * rows // FILES, (part + 1) * rows // FILES)
-            make_file(room / "orders" / f"{part}.csv", orders(numbers))
+            for name, lines in {"orders": orders, "payments": payments, "visits": visits}.items():
+                make_file(room / name / f"{part}.csv", lines(numbers))
         make_file(room / "customers" / "0.csv", customers())
     return room
 
@@ -136,23 +155,23 @@ def rows_agree(work, ordered):
     return filecmp.cmp(work / "aqe.rows", work / "sqlite3.rows", shallow=False)
 
 
-def measure(query, rows, choice):
+def measure(query, other_query, rows, choice):
     """The times and peaks of both, as a dictionary; refuses rows that differ."""
     room = tables_of(rows)
     with tempfile.TemporaryDirectory() as name:
         work = pathlib.Path(name)
         wall, peak = run_best(words_of_program(choice.program, query, work), room, work / "aqe", choice.runs)
-        other, other_peak = run_best(words_of_sqlite(query, room), room, work / "sqlite3", choice.runs)
+        other, other_peak = run_best(words_of_sqlite(other_query, room), room, work / "sqlite3", choice.runs)
         if not rows_agree(work, query.upper().rfind("ORDER BY") > query.rfind(")")):
             raise Failed("the rows differ from those of sqlite3")
     return {"rows": rows, "wall": wall, "peak": peak, "other": other, "other_peak": other_peak}
 
 
-def verdict(first, factor):
+def verdict(name, first, factor):
     missed = []
     if first["wall"] > RATIO * first["other"]:
         missed.append("time")
-    if first["peak"] > MEMORY:
+    if first["peak"] > (MEMORY_OF_JOINS if "join" in name else MEMORY):
         missed.append("memory")
     if factor and factor > FACTOR:
         missed.append("growth")
@@ -162,8 +181,8 @@ def verdict(first, factor):
 def line_of(name, seen, factor):
     grown = f"{factor:.2f}" if factor else ""
     return (
-        f"| {name:11} | {seen['rows']:>9,} | {seen['wall']:6.2f} s | {seen['other']:6.2f} s | {seen['wall'] / seen['other']:5.2f} "
-        f"| {seen['peak']:5.0f} MB | {seen['other_peak']:5.0f} MB | {grown:6} | {verdict(seen, factor)} |"
+        f"| {name:15} | {seen['rows']:>9,} | {seen['wall']:6.2f} s | {seen['other']:6.2f} s | {seen['wall'] / seen['other']:5.2f} "
+        f"| {seen['peak']:5.0f} MB | {seen['other_peak']:5.0f} MB | {grown:6} | {verdict(name, seen, factor)} |"
     )
 
 
@@ -212,14 +231,16 @@ def choice_of(words):
 def main(words):
     choice = choice_of(words)
     names = choice.queries or sorted(path.stem for path in (HERE / "queries").glob("*.sql"))
-    print("| query       |    orders |      aqe |  sqlite3 | ratio |     peak |  sqlite3 | twice  | aims |")
+    print("| query           |    orders |      aqe |  sqlite3 | ratio |     peak |  sqlite3 | twice  | aims |")
     print("|---|---|---|---|---|---|---|---|---|")
     figures, failed = [], 0
     for name in names:
         try:
             query = (HERE / "queries" / f"{name}.sql").read_text(encoding="ascii")
-            seen = measure(query, choice.rows, choice)
-            grown = measure(query, 2 * choice.rows, choice) if choice.twice else None
+            other = HERE / "queries" / f"{name}.sqlite"
+            other_query = other.read_text(encoding="ascii") if other.is_file() else query
+            seen = measure(query, other_query, choice.rows, choice)
+            grown = measure(query, other_query, 2 * choice.rows, choice) if choice.twice else None
             figures.append((name, seen))
             print(line_of(name, seen, grown and grown["wall"] / seen["wall"]), flush=True)
         except (Failed, OSError) as fault:
