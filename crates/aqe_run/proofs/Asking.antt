@@ -91,12 +91,16 @@ module _ (catalog : List CatalogTable) (slots : Slots) (shaped : AreShaped catal
   wide_each (filtered condition child) b h = (tt, wide_each child b h)
   wide_each (projected items schema child) b h = (tt, wide_each child b h)
   wide_each (aggregated keys calls schema child) b h = (tt, wide_each child b h)
-  wide_each (joined kind condition left right) b h = (tt,
-      wide_each left (both_left (is_built left) (is_built right) b) (all_left (HasItsColumns (seen catalog)) (scanned_tables left) (scanned_tables right) h),
-      wide_each right (both_right (is_built left) (is_built right) b) (all_right (HasItsColumns (seen catalog)) (scanned_tables left) (scanned_tables right) h))
-  wide_each (united left right) b h = (tt,
-      wide_each left (both_left (is_built left) (is_built right) b) (all_left (HasItsColumns (seen catalog)) (scanned_tables left) (scanned_tables right) h),
-      wide_each right (both_right (is_built left) (is_built right) b) (all_right (HasItsColumns (seen catalog)) (scanned_tables left) (scanned_tables right) h))
+  wide_each (joined kind condition left right) b h = (
+    tt,
+    wide_each left (both_left (is_built left) (is_built right) b) (all_left (HasItsColumns (seen catalog)) (scanned_tables left) (scanned_tables right) h),
+    wide_each right (both_right (is_built left) (is_built right) b) (all_right (HasItsColumns (seen catalog)) (scanned_tables left) (scanned_tables right) h),
+  )
+  wide_each (united left right) b h = (
+    tt,
+    wide_each left (both_left (is_built left) (is_built right) b) (all_left (HasItsColumns (seen catalog)) (scanned_tables left) (scanned_tables right) h),
+    wide_each right (both_right (is_built left) (is_built right) b) (all_right (HasItsColumns (seen catalog)) (scanned_tables left) (scanned_tables right) h),
+  )
   wide_each (sorted keys child) b h = absurd (clash b)
   wide_each (limited count skip child) b h = (tt, wide_each child b h)
   wide_each (Empty schema) b h = absurd (clash b)
