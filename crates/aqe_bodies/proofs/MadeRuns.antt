@@ -1,5 +1,5 @@
 -- What runs before a stage is made runs after it, and so does what the stage is made of.
-use Rattle.std.proofs.Common.{◌≡◌, refl, sym, subst, ◌≤◌, ℕ, [], ◌∷◌, ◌++◌, length, None}
+use Rattle.std.proofs.Common.{◌≡◌, refl, sym, subst, ◌≤◌, ℕ, [], ◌∷◌, ◌++◌, length, Some, None}
 use Rattle.std.specs.Prelude.{All}
 use Rattle.std.specs.List.{range_with_len}
 use Rattle.std.proofs.lemmas.List.{append-nil}
@@ -17,18 +17,18 @@ use Rattle.aqe_physical.proofs.Nodes.{Each, each, all_nodes}
 use Rattle.aqe_stages.specs.Stages.{Stage, Stages}
 use Rattle.aqe_stages.specs.Parts.{parts, given_by, all}
 use Rattle.aqe_stages.specs.Places.{place}
-use Rattle.aqe_stages.specs.Reads.{ReadsBelowAt}
+use Rattle.aqe_stages.specs.Reads.{ReadsBelowAt, NamesSample, KindNamesSample}
 use Rattle.aqe_stages.specs.Making.{Made, shuffle, broadcast, sampling, plain_read, shuffled, broadcasted, sampled, in_kept, in_mapped, in_moved, in_left, in_right, in_grouped, in_finished, in_ordered, in_cut_locally, in_cut_globally, in_first, in_second}
 use Rattle.aqe_stages.specs.Runnable.{OfStage, Narrow, Runnable, CanKeep, reducers_of}
 use Rattle.aqe_stages.proofs.Made.{made_keeps}
 use Rattle.aqe_fit_laws.specs.Serving.{RunsAt, CanMove, IsNoExchange, WithoutExchange}
 use Rattle.aqe_fit_laws.proofs.Widths.{exchanged_all, plain_lie}
 use Rattle.aqe_fit_laws.proofs.Bodies.{bodies_run}
-use Rattle.aqe_bodies.specs.Laws.{MakingsKeepRunning, BodiesOfStagesRun, IsNoRange}
+use Rattle.aqe_bodies.specs.Laws.{MakingsKeepRunning, BodiesOfStagesRun, NamesSamplesAt}
 use Rattle.aqe_bodies.proofs.Carried.{Same, carry_kept, carry_mapped, carry_moved, carry_matched, carry_grouped, carry_finished, carry_ordered, carry_cut_locally, carry_cut_globally, carry_both_of, same_narrow, same_later, later}
 
 -- the newest stage is that of its number
-newest : (stages : Stages) (stage : Stage) (n : ℕ) (P : Stage → Type 0) → n ≡ length stages → P stage → OfStage (stages ++ stage ∷ []) n P
+pub newest : (stages : Stages) (stage : Stage) (n : ℕ) (P : Stage → Type 0) → n ≡ length stages → P stage → OfStage (stages ++ stage ∷ []) n P
 newest stages stage n P e h = subst (λ (m : ℕ). OfStage (stages ++ stage ∷ []) m P) (sym e) (at_end stages)
   where
     at_end : (front : Stages) → OfStage (front ++ stage ∷ []) (length front) P
@@ -176,29 +176,33 @@ module _ (tables : Tables) (stages : Stages) (number : StageId) where
       first_of (λ body. WithoutExchange body → Runnable tables stages body) p
       (each (λ body. WithoutExchange body → Runnable tables stages body) p (bodies_run tables stages p (all_nodes (RunsAt tables stages) p h))) none
 
-  keeps : (to : Target) (child : Plan) → IsNoRange (moved to child) → CanMove to (all tables stages child) → CanKeep stages (kind.Shuffle to) (all tables stages child)
-  keeps (target.Hash keys n) child r h = h
-  keeps (target.Range keys n sample) child r h = absurd r
-  keeps target.Single child r h = tt
-  keeps target.Broadcast child r h = tt
+  -- what an exchange can move its target can keep, where a range names its sample
+  keeps : (to : Target) (child : Plan) → NamesSample to → NamesSamplesAt stages (moved to child) → CanMove to (all tables stages child) →
+      CanKeep stages (kind.Shuffle to) (all tables stages child)
+  keeps (target.Hash keys n) child named r h = h
+  keeps (target.Range keys n None) child named r h = absurd named
+  keeps (target.Range keys n (Some sample)) child named r h = (h.0, r, h.1)
+  keeps target.Single child named r h = tt
+  keeps target.Broadcast child named r h = tt
 
-  body : (p q : Plan) (stage : Stage) → Made number p stage q → WithoutExchange stage.body → Each IsNoRange p → Each (RunsAt tables stages) p → Body stage
-  body p q stage (shuffled to child s) none r h = (runs child none h.1, keeps to child r.0 h.0)
-  body p q stage (broadcasted child) none r h = (runs child none h.1, tt)
-  body p q stage (sampled keys n child) none r h = absurd r.0
-  body p q stage (in_kept c x y st m) none r h = body x y st m none r.1 h.1
-  body p q stage (in_mapped items x y st m) none r h = body x y st m none r.1 h.1
-  body p q stage (in_moved to x y st m) none r h = body x y st m none r.1 h.1
-  body p q stage (in_left how k keys v w x y other st m) none r h = body x y st m none r.1 h.1
-  body p q stage (in_right how k keys v w other x y st m) none r h = body x y st m none r.2 h.2
-  body p q stage (in_grouped keys calls x y st m) none r h = body x y st m none r.1 h.1
-  body p q stage (in_finished n calls x y st m) none r h = body x y st m none r.1 h.1
-  body p q stage (in_ordered keys x y st m) none r h = body x y st m none r.1 h.1
-  body p q stage (in_cut_locally n x y st m) none r h = body x y st m none r.1 h.1
-  body p q stage (in_cut_globally n k x y st m) none r h = body x y st m none r.1 h.1
-  body p q stage (in_first x y other st m) none r h = body x y st m none r.1 h.1
-  body p q stage (in_second other x y st m) none r h = body x y st m none r.2 h.2
+  body : (p q : Plan) (stage : Stage) → Made number p stage q → WithoutExchange stage.body → KindNamesSample stage.kind →
+      Each (NamesSamplesAt stages) p → Each (RunsAt tables stages) p → Body stage
+  body p q stage (shuffled to child s) none named r h = (runs child none h.1, keeps to child named r.0 h.0)
+  body p q stage (broadcasted child) none named r h = (runs child none h.1, tt)
+  body p q stage (sampled keys n child) none named r h = (runs child none h.1, h.0.1)
+  body p q stage (in_kept c x y st m) none named r h = body x y st m none named r.1 h.1
+  body p q stage (in_mapped items x y st m) none named r h = body x y st m none named r.1 h.1
+  body p q stage (in_moved to x y st m) none named r h = body x y st m none named r.1 h.1
+  body p q stage (in_left how k keys v w x y other st m) none named r h = body x y st m none named r.1 h.1
+  body p q stage (in_right how k keys v w other x y st m) none named r h = body x y st m none named r.2 h.2
+  body p q stage (in_grouped keys calls x y st m) none named r h = body x y st m none named r.1 h.1
+  body p q stage (in_finished n calls x y st m) none named r h = body x y st m none named r.1 h.1
+  body p q stage (in_ordered keys x y st m) none named r h = body x y st m none named r.1 h.1
+  body p q stage (in_cut_locally n x y st m) none named r h = body x y st m none named r.1 h.1
+  body p q stage (in_cut_globally n k x y st m) none named r h = body x y st m none named r.1 h.1
+  body p q stage (in_first x y other st m) none named r h = body x y st m none named r.1 h.1
+  body p q stage (in_second other x y st m) none named r h = body x y st m none named r.2 h.2
 
 pub bodies : BodiesOfStagesRun
-bodies tables stages number before after stage m none ranges h =
-    body tables stages number before after stage m none (each IsNoRange before ranges) (each (RunsAt tables stages) before h)
+bodies tables stages number before after stage m none named ranges h =
+    body tables stages number before after stage m none named (each (NamesSamplesAt stages) before ranges) (each (RunsAt tables stages) before h)

@@ -3,4 +3,7 @@
 
 mod laws;
 
-pub use laws::{bodies_of_stages_run, later_stages_keep_running, makings_keep_running};
+pub use laws::{
+    bodies_of_stages_run, later_stages_keep_running, later_stages_keep_samples,
+    makings_keep_running, makings_keep_samples,
+};

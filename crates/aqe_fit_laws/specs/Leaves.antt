@@ -4,7 +4,7 @@ use Rattle.aqe_rects.specs.Rectangles.{plain_rects}
 use Rattle.aqe_logical.specs.declared.plan.Placement.{Placement}
 use Rattle.aqe_logical.specs.declared.plan.Placement.TheVariants as place
 use Rattle.aqe_logical.specs.declared.plan.Logical.{Logical, Scan, Empty, Held, HeldPartial}
-use Rattle.aqe_logical.specs.Shapes.{sorted, sampled}
+use Rattle.aqe_logical.specs.Shapes.{sampled}
 use Rattle.aqe_logical.specs.Nodes.{nodes}
 use Rattle.aqe_logical.specs.Answers.{Tables, Stages as HeldRows}
 use Rattle.aqe_physical.specs.declared.target.Target.{Target}
@@ -87,7 +87,6 @@ ReadsPlain stages p = All (IsPlainRead stages) (physical.nodes p)
 -- The nodes that are planned so far. A node that is planned later takes its line away.
 abbrev pub IsPlannedYet : Logical → Type 0
 IsPlannedYet (Empty schema) = ⊥
-IsPlannedYet (sorted keys child) = ⊥
 IsPlannedYet (sampled stage child) = ⊥
 IsPlannedYet node = Unit {0}
 

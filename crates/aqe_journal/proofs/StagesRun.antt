@@ -1,5 +1,5 @@
 -- Each stage that a run has made can be carried out.
-use Rattle.std.proofs.Common.{◌≡◌, refl, ap, sym, subst, ◌∙◌, ◌≤◌, zero, suc, ℕ, Bool, true, false, cond, List, [], ◌∷◌, ◌++◌, length, fold, arith, Some, None, length-append, inl, inr}
+use Rattle.std.proofs.Common.{◌≡◌, refl, ap, sym, subst, ◌∙◌, ◌≤◌, zero, suc, ℕ, Bool, true, false, cond, List, [], ◌∷◌, ◌++◌, length, fold, arith, Option, Some, None, length-append, inl, inr}
 use Rattle.std.specs.Prelude.{All, ◌&&◌, not}
 use Rattle.std.proofs.lemmas.Bool.{cases_Bool}
 use Rattle.std.proofs.lemmas.List.{append-nil}
@@ -9,14 +9,13 @@ use Rattle.aqe_base.specs.declared.stage_id.StageId.{StageId}
 use Rattle.aqe_base.specs.declared.join_kind.JoinKind.{JoinKind}
 use Rattle.aqe_logical.specs.declared.plan.Logical.{Logical}
 use Rattle.aqe_logical.specs.declared.plan.Placement.{Placement}
-use Rattle.aqe_logical.specs.Answers.{Row, Tables}
+use Rattle.aqe_logical.specs.Answers.{Tables}
 use Rattle.aqe_logical.specs.WellFormed.{IsOfAQuery}
 use Rattle.aqe_logical.proofs.Nodes as logical_walk
 use Rattle.aqe_settings.specs.Values.{partitions}
 use Rattle.aqe_physical.specs.declared.target.Target.{Target}
 use Rattle.aqe_physical.specs.declared.target.Target.TheVariants as target
 use Rattle.aqe_physical.specs.declared.target.JoinWay.{JoinWay}
-use Rattle.aqe_physical.specs.declared.target.StageKind.{StageKind}
 use Rattle.aqe_physical.specs.declared.target.StageKind.TheVariants as kind
 use Rattle.aqe_physical.specs.declared.plan.Plan.{Plan, OneRow, Scan, Nothing, Read, ReadBroadcast}
 use Rattle.aqe_physical.specs.Shapes.{kept, mapped, moved, matched, grouped, finished, ordered, cut_locally, cut_globally, both_of}
@@ -27,7 +26,7 @@ use Rattle.aqe_stages.specs.Parts.{all, parts}
 use Rattle.aqe_partial.specs.PartialRows.{joined_parts}
 use Rattle.aqe_stages.specs.Reads.{ReadsBelow, ReadsBelowAt, SampleBelow}
 use Rattle.aqe_stages.specs.Making.{Made, shuffled, broadcasted, sampled, in_kept, in_mapped, in_moved, in_left, in_right, in_grouped, in_finished, in_ordered, in_cut_locally, in_cut_globally, in_first, in_second}
-use Rattle.aqe_stages.specs.Runnable.{Runnable, CanKeep}
+use Rattle.aqe_stages.specs.Runnable.{Runnable}
 use Rattle.aqe_stages.proofs.Later.{parts_stay}
 use Rattle.aqe_stages.proofs.Made.{made_reads_below}
 use Rattle.aqe_making.specs.Makings.{Making, makings, result_of}
@@ -46,15 +45,17 @@ use Rattle.aqe_fit_laws.specs.Serving.{RunsAt, IsNoExchange, WithoutExchange}
 use Rattle.aqe_fit_laws.specs.Leaves.{IsPlannedYet}
 use Rattle.aqe_fit_laws.proofs.Bodies.{bodies_run}
 use Rattle.aqe_fit_laws.proofs.FittingServes.{fitting_stand}
-use Rattle.aqe_bodies.specs.Laws.{RunsOver, IsNoRange, WithoutRange}
+use Rattle.aqe_bodies.specs.Laws.{RunsOver, NamesSamplesAt, RangesNameSamples}
 use Rattle.aqe_bodies.proofs.Carried.{later_runs}
 use Rattle.aqe_bodies.proofs.MadeRuns.{made_runs, bodies, first_of}
+use Rattle.aqe_bodies.proofs.Named.{later_samples, made_samples}
 use Rattle.aqe_journal.specs.Asked.{Asked}
 use Rattle.aqe_journal.specs.States.{State, first_state, with_stage, with_event, with_marks, is_materialised, number_of}
 use Rattle.aqe_journal.specs.LegalRecord.{IsFirst, PlansAgain, never, keeps, adopts, Takes, goes_on, turns, settled, has_result, SoFar, begun, one_on}
 use Rattle.aqe_journal.specs.Laws.{IsSound, CanBeCarriedOut, StagesOfRunsRun}
-use Rattle.aqe_journal.specs.Steady.{IsNoRangeKind, Kept, Steady}
+use Rattle.aqe_journal.specs.Steady.{Kept, Steady}
 use Rattle.aqe_journal.proofs.Born.{stage_born, event_born, marks_born, not_materialised}
+use Rattle.aqe_journal.proofs.Samples.{no_sample, stage_named, keep_more}
 
 -- a plan that is ready holds no exchange
 pub no_exchange : (whole : ℕ → Bool) (p : Plan) → is_ready whole p ≡ true → Each IsNoExchange p
@@ -97,57 +98,6 @@ body_each P number p q stage (in_cut_globally n k x y st m) h = body_each P numb
 body_each P number p q stage (in_first x y other st m) h = body_each P number x y st m h.1
 body_each P number p q stage (in_second other x y st m) h = body_each P number x y st m h.2
 
--- a making brings no range
-ranges_stay : (number : StageId) (p q : Plan) (stage : Stage) → Made number p stage q → Each IsNoRange p → Each IsNoRange q
-ranges_stay number p q stage (shuffled to child s) h = tt
-ranges_stay number p q stage (broadcasted child) h = tt
-ranges_stay number p q stage (sampled keys n child) h = absurd h.0
-ranges_stay number p q stage (in_kept c x y st m) h = (tt, ranges_stay number x y st m h.1)
-ranges_stay number p q stage (in_mapped items x y st m) h = (tt, ranges_stay number x y st m h.1)
-ranges_stay number p q stage (in_moved (target.Hash keys n) x y st m) h = (tt, ranges_stay number x y st m h.1)
-ranges_stay number p q stage (in_moved (target.Range keys n sample) x y st m) h = absurd h.0
-ranges_stay number p q stage (in_moved target.Single x y st m) h = (tt, ranges_stay number x y st m h.1)
-ranges_stay number p q stage (in_moved target.Broadcast x y st m) h = (tt, ranges_stay number x y st m h.1)
-ranges_stay number p q stage (in_left how k keys v w x y other st m) h = (tt, ranges_stay number x y st m h.1, h.2)
-ranges_stay number p q stage (in_right how k keys v w other x y st m) h = (tt, h.1, ranges_stay number x y st m h.2)
-ranges_stay number p q stage (in_grouped keys calls x y st m) h = (tt, ranges_stay number x y st m h.1)
-ranges_stay number p q stage (in_finished n calls x y st m) h = (tt, ranges_stay number x y st m h.1)
-ranges_stay number p q stage (in_ordered keys x y st m) h = (tt, ranges_stay number x y st m h.1)
-ranges_stay number p q stage (in_cut_locally n x y st m) h = (tt, ranges_stay number x y st m h.1)
-ranges_stay number p q stage (in_cut_globally n k x y st m) h = (tt, ranges_stay number x y st m h.1)
-ranges_stay number p q stage (in_first x y other st m) h = (tt, ranges_stay number x y st m h.1, h.2)
-ranges_stay number p q stage (in_second other x y st m) h = (tt, h.1, ranges_stay number x y st m h.2)
-
-kind_of : (number : StageId) (p q : Plan) (stage : Stage) → Made number p stage q → Each IsNoRange p → IsNoRangeKind stage.kind
-kind_of number p q stage (shuffled (target.Hash keys n) child s) h = tt
-kind_of number p q stage (shuffled (target.Range keys n sample) child s) h = absurd h.0
-kind_of number p q stage (shuffled target.Single child s) h = tt
-kind_of number p q stage (shuffled target.Broadcast child s) h = tt
-kind_of number p q stage (broadcasted child) h = tt
-kind_of number p q stage (sampled keys n child) h = tt
-kind_of number p q stage (in_kept c x y st m) h = kind_of number x y st m h.1
-kind_of number p q stage (in_mapped items x y st m) h = kind_of number x y st m h.1
-kind_of number p q stage (in_moved to x y st m) h = kind_of number x y st m h.1
-kind_of number p q stage (in_left how k keys v w x y other st m) h = kind_of number x y st m h.1
-kind_of number p q stage (in_right how k keys v w other x y st m) h = kind_of number x y st m h.2
-kind_of number p q stage (in_grouped keys calls x y st m) h = kind_of number x y st m h.1
-kind_of number p q stage (in_finished n calls x y st m) h = kind_of number x y st m h.1
-kind_of number p q stage (in_ordered keys x y st m) h = kind_of number x y st m h.1
-kind_of number p q stage (in_cut_locally n x y st m) h = kind_of number x y st m h.1
-kind_of number p q stage (in_cut_globally n k x y st m) h = kind_of number x y st m h.1
-kind_of number p q stage (in_first x y other st m) h = kind_of number x y st m h.1
-kind_of number p q stage (in_second other x y st m) h = kind_of number x y st m h.2
-
--- what such a kind asks does not look at stages
-keep_more : (stages other : Stages) (k : StageKind) (a b : List Row) → IsNoRangeKind k → a ≡ b → CanKeep stages k a → CanKeep other k b
-keep_more stages other (kind.Shuffle (target.Hash keys n)) a b r e h = subst (CanKeep other (kind.Shuffle (target.Hash keys n))) e h
-keep_more stages other (kind.Shuffle (target.Range keys n sample)) a b r e h = absurd r
-keep_more stages other (kind.Shuffle target.Single) a b r e h = tt
-keep_more stages other (kind.Shuffle target.Broadcast) a b r e h = tt
-keep_more stages other kind.Broadcast a b r e h = tt
-keep_more stages other (kind.Sample keys) a b r e h = subst (CanKeep other (kind.Sample keys)) e h
-keep_more stages other kind.Result a b r e h = tt
-
 -- what is read below a number is read below a greater one
 sample_up : (m n : ℕ) → m ≤ n → (to : Target) → SampleBelow m to → SampleBelow n to
 sample_up m n le (target.Hash keys k) h = tt
@@ -180,9 +130,8 @@ kept_more tables stages more stage k =
       runs = later_runs tables stages more stage.body k.below k.runs;
       none = k.none;
       below = All-weaker (ReadsBelowAt (length stages)) (ReadsBelowAt (length (stages ++ more))) (below_up (length stages) (length (stages ++ more)) (omega (arith, long))) (nodes stage.body) k.below;
-      keeps = keep_more stages (stages ++ more) stage.kind (all tables stages stage.body) (all tables (stages ++ more) stage.body) k.sends
+      keeps = keep_more stages more stage.kind (all tables stages stage.body) (all tables (stages ++ more) stage.body)
           (sym (ap joined_parts (parts_stay tables stages more stage.body k.below))) k.keeps;
-      sends = k.sends;
     }
 
 all_more : (tables : Tables) (stages : Stages) (stage : Stage) → All (Kept tables stages) stages → Kept tables (stages ++ stage ∷ []) stage →
@@ -199,8 +148,7 @@ step asked now making s at none =
     let number = number_of (length now.stages) in
     let next = after number making.place now.plan in
     let m : Made number now.plan making.stage next = made_at number making.place now.plan making.stage at in
-    let free = each IsNoRange now.plan s.ranges in
-    let run = bodies asked.tables now.stages number now.plan next making.stage m none s.ranges s.runs in
+    let run = bodies asked.tables now.stages number now.plan next making.stage m none (stage_named making.place now.plan making.stage at) s.ranges s.runs in
     let old : Kept asked.tables now.stages making.stage = record {
       runs = all_nodes (RunsAt asked.tables now.stages) making.stage.body
           (body_each (RunsAt asked.tables now.stages) number now.plan next making.stage m (each (RunsAt asked.tables now.stages) now.plan s.runs));
@@ -208,12 +156,11 @@ step asked now making s at none =
       below = all_nodes (ReadsBelowAt (length now.stages)) making.stage.body
           (body_each (ReadsBelowAt (length now.stages)) number now.plan next making.stage m (each (ReadsBelowAt (length now.stages)) now.plan s.below));
       keeps = run.1;
-      sends = kind_of number now.plan next making.stage m free;
     } in
     record {
       runs = made_runs asked.tables now.stages number now.plan next making.stage refl s.below m none s.runs;
       below = made_reads_below now.stages number now.plan next making.stage refl s.below m;
-      ranges = all_nodes IsNoRange next (ranges_stay number now.plan next making.stage m free);
+      ranges = made_samples now.stages number now.plan next making.stage refl m s.ranges;
       made = all_more asked.tables now.stages making.stage s.made (kept_more asked.tables now.stages (making.stage ∷ []) making.stage old);
       born = stage_born now making s.born;
     }
@@ -239,7 +186,7 @@ stays_put new (both_of p q) h = refl
 -- the result stage
 result_kept : (tables : Tables) (stages : Stages) (p : Plan) → RunsOver tables stages p → ReadsBelow (length stages) p → WithoutExchange p →
     Kept tables stages (record { kind = kind.Result; body = p })
-result_kept tables stages p runs below none = record { runs = runs; none = none; below = below; keeps = tt; sends = tt }
+result_kept tables stages p runs below none = record { runs = runs; none = none; below = below; keeps = tt }
 
 pub result_step : (asked : Asked) (now : State) → Steady asked now → WithoutExchange now.plan → Steady asked (with_stage now (result_of now.plan))
 result_step asked now s none =
@@ -251,7 +198,7 @@ result_step asked now s none =
       runs = subst (RunsOver asked.tables (now.stages ++ more)) (sym put) (later_runs asked.tables now.stages more now.plan s.below s.runs);
       below = subst (ReadsBelow (length (now.stages ++ more))) (sym put)
           (All-weaker (ReadsBelowAt (length now.stages)) (ReadsBelowAt (length (now.stages ++ more))) (below_up (length now.stages) (length (now.stages ++ more)) (omega (arith, long))) (nodes now.plan) s.below);
-      ranges = subst WithoutRange (sym put) s.ranges;
+      ranges = subst (RangesNameSamples (now.stages ++ more)) (sym put) (later_samples now.stages more now.plan s.ranges);
       made = all_more asked.tables now.stages (record { kind = kind.Result; body = now.plan }) s.made
           (kept_more asked.tables now.stages more (record { kind = kind.Result; body = now.plan }) (result_kept asked.tables now.stages now.plan s.runs s.below none));
       born = stage_born now (result_of now.plan) s.born;
@@ -292,20 +239,20 @@ marked asked now s = record { runs = s.runs; below = s.below; ranges = s.ranges;
 pub happened : (asked : Asked) (now : State) (event : Event) → Steady asked now → Steady asked (with_event now event)
 happened asked now event s = record { runs = s.runs; below = s.below; ranges = s.ranges; made = s.made; born = event_born now event s.born }
 
--- the first plan of a query has no range and reads no stage
+-- the first plan of a query names no sample and reads no stage
 module _ (ways : JoinKind → Logical → Logical → JoinWay → Type 0) (n : ℕ) (files : ℕ → ℕ) where
   abbrev Quiet : Plan → Type 0
-  Quiet p = Each IsNoRange p × Each (ReadsBelowAt 0) p
+  Quiet p = Each (NamesSamplesAt []) p × Each (ReadsBelowAt 0) p
 
-  -- an exchange that is brought keeps that where it is no range
+  -- an exchange that is brought keeps that where it names no sample
   abbrev IsFree : Target → Plan → Type 0
-  IsFree to p = IsNoRange (moved to p) × ReadsBelowAt 0 (moved to p)
+  IsFree to p = NamesSamplesAt [] (moved to p) × ReadsBelowAt 0 (moved to p)
 
   quiet_brought : (asks : Asks) (to : Target) (p : Plan) (w : Placement) (q : Plan) → IsFree to p → Brought asks to p w q → Quiet p → Quiet q
   quiet_brought asks to p w q free (stays r u s) h = h
   quiet_brought asks to p w q free (goes r u s) h = ((free.0, h.0), (free.1, h.1))
 
-  sends_free : (k : ℕ) (p : Plan) → IsNoRange (moved (groups_target n k) p) × ReadsBelowAt 0 (moved (groups_target n k) p)
+  sends_free : (k : ℕ) (p : Plan) → IsFree (groups_target n k) p
   sends_free zero p = (tt, tt)
   sends_free (suc k) p = (tt, tt)
 
@@ -336,15 +283,18 @@ module _ (ways : JoinKind → Logical → Logical → JoinWay → Type 0) (n : �
   quiet x p w (table.groups_here keys calls schema count z r u out d s c o) y q = let i = quiet z r u d y.1 q.1 in ((tt, (tt, i.0)), (tt, (tt, i.1)))
   quiet x p w (table.groups_moved keys calls schema count to z r u out d s c t o) y q =
       let i = quiet z r u d y.1 q.1 in
-      let free = subst (λ (to : Target). IsNoRange (moved to (grouped keys calls r)) × ReadsBelowAt 0 (moved to (grouped keys calls r))) (sym t) (sends_free count (grouped keys calls r)) in
+      let free = subst (λ (to : Target). IsFree to (grouped keys calls r)) (sym t) (sends_free count (grouped keys calls r)) in
       ((tt, (free.0, (tt, i.0))), (tt, (free.1, (tt, i.1))))
   quiet x p w (table.groups_read stage calls schema count maps reducers rects out c o) y q = absurd q
   quiet x p w (table.a_union a b r t u z d e) y q =
       let i = quiet a r u d y.1 q.1 in
       let j = quiet b t z e y.2 q.2 in
       ((tt, i.0, j.0), (tt, i.1, j.1))
-  quiet x p w (table.sort_here keys z r u d s) y q = absurd y.0
-  quiet x p w (table.sort_moved keys sample z r u d s m) y q = absurd y.0
+  quiet x p w (table.sort_here keys z r u d s) y q = let i = quiet z r u d y.1 q.1 in ((tt, i.0), (tt, i.1))
+  quiet x p w (table.sort_moved keys sample z r u d s m) y q =
+      let i = quiet z r u d y.1 q.1 in
+      let free = subst (λ (named : Option StageId). IsFree (target.Range keys n named) r) (sym (m ∙ no_sample z q.1)) (tt, tt) in
+      ((tt, (free.0, i.0)), (tt, (free.1, i.1)))
   quiet x p w (table.limit_here count skip z r u d s) y q = let i = quiet z r u d y.1 q.1 in ((tt, i.0), (tt, i.1))
   quiet x p w (table.limit_moved count skip first z r u d s e) y q = let i = quiet z r u d y.1 q.1 in ((tt, (tt, (tt, i.0))), (tt, (tt, (tt, i.1))))
   quiet x p w (table.skip_moved skip z r u d s) y q = let i = quiet z r u d y.1 q.1 in ((tt, (tt, i.0)), (tt, (tt, i.1)))
@@ -357,7 +307,7 @@ start asked plan sound first =
     record {
       runs = (fitting_stand asked.tables [] plan asked.query asked.estimates [] asked.settings sound.parts sound.formed sound.closed sound.planned sound.wide sound.files first).1;
       below = all_nodes (ReadsBelowAt 0) plan q.1;
-      ranges = all_nodes IsNoRange plan q.0;
+      ranges = all_nodes (NamesSamplesAt []) plan q.0;
       made = All-nil (Kept asked.tables []);
       born = refl;
     }
