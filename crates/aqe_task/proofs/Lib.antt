@@ -6,6 +6,7 @@ pub mod FormSteps
 pub mod KeptParts
 pub mod SideParts
 pub mod JoinSteps
+pub mod OneCells
 pub mod Broadcasts
 pub mod BehindParts
 pub mod MadeSteps

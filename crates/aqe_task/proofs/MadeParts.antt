@@ -6,7 +6,7 @@ use Rattle.aqe_blocks.specs.Kept.{AllKept}
 use Rattle.aqe_logical.specs.Answers.{Row, Tables}
 use Rattle.aqe_logical.specs.WellFormed.{HaveWidth}
 use Rattle.aqe_physical.specs.declared.plan.Plan.{Plan}
-use Rattle.aqe_physical.specs.Shapes.{kept, mapped, grouped, finished, cut_locally, cut_globally}
+use Rattle.aqe_physical.specs.Shapes.{kept, mapped, grouped, finished, ordered, cut_locally, cut_globally}
 use Rattle.aqe_physical.specs.Nodes.{nodes}
 use Rattle.aqe_stages.specs.Stages.{Stages, Given}
 use Rattle.aqe_stages.specs.Parts.{parts, given_by, out}
@@ -23,6 +23,7 @@ built_below (kept c x) q is h = subst IsBuiltBody (sym is) h
 built_below (mapped i x) q is h = subst IsBuiltBody (sym is) h
 built_below (grouped ks cs x) q is h = subst IsBuiltBody (sym is) h
 built_below (finished n cs x) q is h = subst IsBuiltBody (sym is) h
+built_below (ordered ks x) q is h = subst IsBuiltBody (sym is) h
 built_below (cut_locally n x) q is h = subst IsBuiltBody (sym is) h
 built_below (cut_globally n s x) q is h = subst IsBuiltBody (sym is) h
 built_below p q is h = absurd is
@@ -38,6 +39,8 @@ module _ (tables : Tables) (held : AllKept) (k : ℕ) where
       subst (λ (z : Plan). IsServed tables stages held z k) (sym is) (record { runs = All-tail (Runs tables stages) (grouped ks cs x) (nodes x) s.runs; within = s.within; reads = s.reads })
   served_below stages (finished n cs x) q is s =
       subst (λ (z : Plan). IsServed tables stages held z k) (sym is) (record { runs = All-tail (Runs tables stages) (finished n cs x) (nodes x) s.runs; within = s.within; reads = s.reads })
+  served_below stages (ordered ks x) q is s =
+      subst (λ (z : Plan). IsServed tables stages held z k) (sym is) (record { runs = All-tail (Runs tables stages) (ordered ks x) (nodes x) s.runs; within = s.within; reads = s.reads })
   served_below stages (cut_locally n x) q is s =
       subst (λ (z : Plan). IsServed tables stages held z k) (sym is) (record { runs = All-tail (Runs tables stages) (cut_locally n x) (nodes x) s.runs; within = s.within; reads = s.reads })
   served_below stages (cut_globally n j x) q is s =
@@ -53,6 +56,7 @@ module _ (tables : Tables) (held : AllKept) (k : ℕ) where
   parts_made given (mapped i x) q is = ap (λ (z : Plan). map (made_by (mapped i x)) (parts tables given z)) (sym is)
   parts_made given (grouped ks cs x) q is = ap (λ (z : Plan). map (made_by (grouped ks cs x)) (parts tables given z)) (sym is)
   parts_made given (finished n cs x) q is = ap (λ (z : Plan). map (made_by (finished n cs x)) (parts tables given z)) (sym is)
+  parts_made given (ordered ks x) q is = ap (λ (z : Plan). map (made_by (ordered ks x)) (parts tables given z)) (sym is)
   parts_made given (cut_locally n x) q is = ap (λ (z : Plan). map (made_by (cut_locally n x)) (parts tables given z)) (sym is)
   parts_made given (cut_globally n s x) q is = ap (λ (z : Plan). map (made_by (cut_globally n s x)) (parts tables given z)) (sym is)
   parts_made given p q is = absurd is
@@ -75,6 +79,7 @@ module _ (tables : Tables) (held : AllKept) (k : ℕ) where
       let whole = (own (Runs tables stages) (finished n cs x) s.runs).0 in
       let same : rows ≡ out tables stages x k = e ∙ ap (λ (z : Plan). out tables stages z k) is in
       (subst (HaveWidth (n + length cs)) (sym same) (part_all (λ (row : Row). length row ≡ n + length cs) (parts tables (given_by tables stages) x) k whole), narrow, made)
+  fits_made stages (ordered ks x) q rows is s e narrow made = tt
   fits_made stages (cut_locally n x) q rows is s e narrow made = tt
   fits_made stages (cut_globally n j x) q rows is s e narrow made = tt
   fits_made stages p q rows is s e narrow made = absurd is

@@ -6,7 +6,9 @@ use Rattle.aqe_logical.specs.declared.plan.AggCall.{AggCall}
 use Rattle.aqe_logical.specs.declared.plan.SortKey.{SortKey}
 use Rattle.aqe_logical.specs.Answers.{Row, at_most_rows}
 use Rattle.aqe_logical.specs.Groups.{row_of, group_rows, finish_rows}
+use Rattle.aqe_logical.specs.Order.{before}
 use Rattle.aqe_logical.specs.WellFormed.{HaveWidth}
+use Rattle.aqe_places.specs.Sorting.{stable_sort}
 use Rattle.aqe_physical.specs.declared.target.Target.{Target}
 use Rattle.aqe_physical.specs.declared.plan.Plan.{Plan}
 use Rattle.aqe_physical.specs.declared.plan.Plan.TheVariants.{Filter, Project, Exchange, PartialAgg, FinalAgg, Sort, LocalLimit, GlobalLimit}
@@ -27,13 +29,16 @@ made-partial p ks cs q rows e = ap (λ (x : Plan). made_by x rows) (e ∙ is_gro
 pub made-final : (p : Plan) (n : ℕ) (cs : List AggCall) (q : Plan) (rows : List Row) → p ≡ FinalAgg n cs q → made_by p rows ≡ finish_rows n cs rows
 made-final p n cs q rows e = ap (λ (x : Plan). made_by x rows) (e ∙ is_finished n cs q)
 
+pub made-sort : (p : Plan) (ks : List SortKey) (q : Plan) (rows : List Row) → p ≡ Sort ks q → made_by p rows ≡ stable_sort (before ks) rows
+made-sort p ks q rows e = ap (λ (x : Plan). made_by x rows) (e ∙ is_ordered ks q)
+
 pub made-local : (p : Plan) (n : ℕ) (q : Plan) (rows : List Row) → p ≡ LocalLimit n q → made_by p rows ≡ take n rows
 made-local p n q rows e = ap (λ (x : Plan). made_by x rows) (e ∙ is_cut_locally n q)
 
 pub made-global : (p : Plan) (n : Option ℕ) (s : ℕ) (q : Plan) (rows : List Row) → p ≡ GlobalLimit n s q → made_by p rows ≡ at_most_rows n (drop s rows)
 made-global p n s q rows e = ap (λ (x : Plan). made_by x rows) (e ∙ is_cut_globally n s q)
 
-pub ruleset made_steps = (made-filter, made-project, made-partial, made-final, made-local, made-global)
+pub ruleset made_steps = (made-filter, made-project, made-partial, made-final, made-sort, made-local, made-global)
 
 pub can-project : (p : Plan) (i : List Expr) (q : Plan) (rows : List Row) → p ≡ Project i q → CanMake p rows → Narrow (map (row_of i) rows)
 can-project p i q rows e h = subst (λ (x : Plan). CanMake x rows) (e ∙ is_mapped i q) h
@@ -49,17 +54,18 @@ can-final p n cs q rows e h = subst (λ (x : Plan). CanMake x rows) (e ∙ is_fi
 abbrev pub IsMadeOf : Plan → Plan → Type 0
 IsMadeOf p q =
     ((c : Expr) × (p ≡ Filter c q)) ⊎ (((i : List Expr) × (p ≡ Project i q)) ⊎ (((ks : List Expr) × (cs : List AggCall) × (p ≡ PartialAgg ks cs q)) ⊎
-    (((n : ℕ) × (cs : List AggCall) × (p ≡ FinalAgg n cs q)) ⊎ (((n : ℕ) × (p ≡ LocalLimit n q)) ⊎ ((n : Option ℕ) × (s : ℕ) × (p ≡ GlobalLimit n s q))))))
+    (((n : ℕ) × (cs : List AggCall) × (p ≡ FinalAgg n cs q)) ⊎ (((ks : List SortKey) × (p ≡ Sort ks q)) ⊎ (((n : ℕ) × (p ≡ LocalLimit n q)) ⊎
+    ((n : Option ℕ) × (s : ℕ) × (p ≡ GlobalLimit n s q)))))))
 
 pub is_below : (p q z : Plan) → IsMadeOf p q → z ≡ q → IsBelow p z
 is_below p q z (inl (c, e)) f = subst (λ (x : Plan). IsBelow x z) (sym (e ∙ is_kept c q)) f
 is_below p q z (inr (inl (i, e))) f = subst (λ (x : Plan). IsBelow x z) (sym (e ∙ is_mapped i q)) f
 is_below p q z (inr (inr (inl (ks, cs, e)))) f = subst (λ (x : Plan). IsBelow x z) (sym (e ∙ is_grouped ks cs q)) f
 is_below p q z (inr (inr (inr (inl (n, cs, e))))) f = subst (λ (x : Plan). IsBelow x z) (sym (e ∙ is_finished n cs q)) f
-is_below p q z (inr (inr (inr (inr (inl (n, e)))))) f = subst (λ (x : Plan). IsBelow x z) (sym (e ∙ is_cut_locally n q)) f
-is_below p q z (inr (inr (inr (inr (inr (n, s, e)))))) f = subst (λ (x : Plan). IsBelow x z) (sym (e ∙ is_cut_globally n s q)) f
+is_below p q z (inr (inr (inr (inr (inl (ks, e)))))) f = subst (λ (x : Plan). IsBelow x z) (sym (e ∙ is_ordered ks q)) f
+is_below p q z (inr (inr (inr (inr (inr (inl (n, e))))))) f = subst (λ (x : Plan). IsBelow x z) (sym (e ∙ is_cut_locally n q)) f
+is_below p q z (inr (inr (inr (inr (inr (inr (n, s, e))))))) f = subst (λ (x : Plan). IsBelow x z) (sym (e ∙ is_cut_globally n s q)) f
 
--- an exchange and a sort are not carried out yet
-pub not_built : (p : Plan) → ((t : Target) × (q : Plan) × (p ≡ Exchange t q)) ⊎ ((ks : List SortKey) × (q : Plan) × (p ≡ Sort ks q)) → IsBuiltBody p → ⊥
-not_built p (inl (t, q, e)) h = let no = subst IsBuiltBody (e ∙ is_moved t q) h in cc no
-not_built p (inr (ks, q, e)) h = let no = subst IsBuiltBody (e ∙ is_ordered ks q) h in cc no
+-- an exchange is not carried out
+pub not_built : (p : Plan) (t : Target) (q : Plan) → p ≡ Exchange t q → IsBuiltBody p → ⊥
+not_built p t q e h = let no = subst IsBuiltBody (e ∙ is_moved t q) h in cc no

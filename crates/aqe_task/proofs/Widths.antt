@@ -6,6 +6,8 @@ use Rattle.aqe_values.specs.Bounds.{row_limit}
 use Rattle.aqe_expr.specs.declared.expr.Expr.{Expr}
 use Rattle.aqe_expr.specs.Meaning.{val}
 use Rattle.aqe_logical.specs.declared.plan.AggCall.{AggCall}
+use Rattle.aqe_logical.specs.declared.plan.SortKey.{SortKey}
+use Rattle.aqe_logical.specs.Order.{key_of}
 use Rattle.aqe_logical.specs.Answers.{Row}
 use Rattle.aqe_logical.specs.Groups.{row_of, group_rows, finish_rows, finished, rows_with, call_value}
 use Rattle.std.specs.Prelude.{take}
@@ -27,6 +29,13 @@ no_wide_keys keys [] h wide = refl
 no_wide_keys keys (row ∷ rows) h wide =
     let narrow : length (row_of keys row) ≤ 1024 = All-head (λ (r : Row). length (row_of keys r) ≤ row_limit) row rows h in
     let same = length-map keys (val row) in
+    absurd (omega (arith, narrow, same, wide))
+
+pub no_wide_sort : (keys : List SortKey) (rows : List Row) → NarrowKeys (key_of keys) rows → 1024 < length keys → rows ≡ []
+no_wide_sort keys [] h wide = refl
+no_wide_sort keys (row ∷ rows) h wide =
+    let narrow : length (key_of keys row) ≤ 1024 = All-head (λ (r : Row). length (key_of keys r) ≤ row_limit) row rows h in
+    let same = length-map keys (λ (key : SortKey). val row key.expr) in
     absurd (omega (arith, narrow, same, wide))
 
 -- the row of a group, and how many values it has

@@ -8,6 +8,7 @@ mod part;
 mod part_rows;
 mod reading;
 mod runner;
+mod sending;
 mod steps;
 mod task;
 

@@ -40,6 +40,7 @@ pub(crate) fn part_of<'a>(
         | Plan::Project { child, .. }
         | Plan::PartialAgg { child, .. }
         | Plan::FinalAgg { child, .. }
+        | Plan::Sort { child, .. }
         | Plan::LocalLimit { child, .. }
         | Plan::GlobalLimit { child, .. } => {
             let rows = part_of(alloc, child.get(), k, tables, outputs)?;
@@ -59,6 +60,6 @@ pub(crate) fn part_of<'a>(
             None => part_of(alloc, left.get(), k, tables, outputs),
             Some(rest) => part_of(alloc, right.get(), rest, tables, outputs),
         },
-        Plan::Exchange { .. } | Plan::Sort { .. } => unreachable!(),
+        Plan::Exchange { .. } => unreachable!(),
     }
 }

@@ -5,7 +5,7 @@ ghost use Rattle.aqe_base.specs.declared.stage_id.StageId.{StageId as StageNumbe
 ghost use Rattle.aqe_base.specs.declared.ids.TaskId.{TaskId as TaskNumber};
 ghost use Rattle.aqe_stages.specs.Stages.{Stages};
 ghost use Rattle.aqe_estimates.specs.LoadedTables.{tables_of};
-ghost use Rattle.aqe_task.specs.Built.{IsBuiltBody, IsBuiltKind};
+ghost use Rattle.aqe_task.specs.Built.{IsBuiltBody};
 ghost use Rattle.aqe_task.specs.Tasks.{IsServedTask, GivesTask, HasRun};
 
 use crate::task::run_task;
@@ -35,7 +35,6 @@ pub trait Runner {
         outputs: &Outputs,
     ) -> Result<MapOutput, Memory>
         requires body { IsBuiltBody body.now }
-        requires kind { IsBuiltKind kind.now }
         requires served { (stages : Stages) × IsServedTask (tables_of tables.now) stages outputs.now kind.now body.now k }
         ensures cells { IfOk result (GivesTask (tables_of tables.now) outputs.now kind.now body.now k) }
         ensures ran { OnOk result (HasRun (ran self.old) (ran self.new) stage k) }

@@ -4,21 +4,24 @@ ghost use Rattle.std.specs.Prelude.{◌≡◌, ◌+◌, map, filter, drop, lengt
 ghost use Rattle.aqe_expr.specs.Meaning.{holds};
 ghost use Rattle.aqe_logical.specs.Answers.{at_most_rows};
 ghost use Rattle.aqe_logical.specs.Groups.{row_of, group_rows, finish_rows};
+ghost use Rattle.aqe_logical.specs.Order.{before};
 ghost use Rattle.aqe_logical.specs.WellFormed.{HaveWidth};
+ghost use Rattle.aqe_places.specs.Sorting.{stable_sort};
 ghost use Rattle.aqe_stages.specs.Runnable.{Narrow};
 ghost use Rattle.aqe_values.specs.Bounds.{row_limit};
 ghost use Rattle.aqe_task.specs.Below.{CanMake, made_by};
 ghost use Rattle.aqe_task.specs.Pieces.{rows_in};
 
-use crate::part_rows::PartRows;
+use crate::part_rows::{PartRows, into_rows};
 use aqe_base::Memory;
 use aqe_expr::Expr;
-use aqe_logical::{AggCalls, Exprs};
+use aqe_logical::{AggCalls, Exprs, SortKeys};
 use aqe_operators::{
     filter_lent, filter_rows, final_lent, final_rows, limit_lent, limit_rows, partial_lent,
     partial_rows, project_lent, project_rows,
 };
 use aqe_physical::Plan;
+use aqe_sorting::sort_rows;
 use aqe_values::Rows;
 use std::alloc::Global;
 
@@ -93,6 +96,14 @@ fn finished(alloc: Global, keys: u32, calls: &AggCalls, rows: PartRows<'_>) -> R
     }
 }
 
+/// The rows in the order of the keys. Rows that were made move.
+fn sorted(alloc: Global, keys: &SortKeys, rows: PartRows<'_>) -> Result<Rows, Memory>
+    ensures { IfOk result (λ sorted. sorted ≡ stable_sort (before keys.now) (rows_in rows.entry)) }
+{
+    let rows = into_rows(alloc, rows)?;
+    sort_rows(alloc, keys, rows)
+}
+
 /// The rows behind the first `skip`, and of these the first `count` or all. Lent rows stay lent.
 fn limited<'a>(rows: PartRows<'a>, count: Option<u64>, skip: u64) -> PartRows<'a>
     ensures { rows_in result ≡ at_most_rows count (drop skip (rows_in rows.entry)) }
@@ -130,6 +141,10 @@ pub(crate) fn made<'a>(
             let made = finished(alloc, *keys, calls, rows)?;
             Ok(PartRows::Owned(made))
         }
+        Plan::Sort { keys, .. } => {
+            let made = sorted(alloc, keys, rows)?;
+            Ok(PartRows::Owned(made))
+        }
         Plan::LocalLimit { count, .. } => Ok(limited(rows, Some(*count), 0)),
         Plan::GlobalLimit { count, skip, .. } => Ok(limited(rows, *count, *skip)),
         Plan::OneRow
@@ -139,7 +154,6 @@ pub(crate) fn made<'a>(
         | Plan::ReadBroadcast { .. }
         | Plan::Exchange { .. }
         | Plan::Join { .. }
-        | Plan::Sort { .. }
         | Plan::Union { .. } => unreachable!(),
     }
 }

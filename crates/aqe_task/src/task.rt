@@ -3,7 +3,7 @@
 ghost use Rattle.std.specs.Prelude.{IfOk};
 ghost use Rattle.aqe_stages.specs.Stages.{Stages};
 ghost use Rattle.aqe_estimates.specs.LoadedTables.{tables_of};
-ghost use Rattle.aqe_task.specs.Built.{IsBuiltBody, IsBuiltKind};
+ghost use Rattle.aqe_task.specs.Built.{IsBuiltBody};
 ghost use Rattle.aqe_task.specs.Tasks.{IsServedTask, GivesTask};
 
 use crate::keeping::keep_rows;
@@ -27,11 +27,10 @@ pub fn run_task(
     outputs: &Outputs,
 ) -> Result<MapOutput, Memory>
     requires body { IsBuiltBody body.now }
-    requires kind { IsBuiltKind kind.now }
     requires served { (stages : Stages) × IsServedTask (tables_of tables.now) stages outputs.now kind.now body.now k }
     ensures { IfOk result (GivesTask (tables_of tables.now) outputs.now kind.now body.now k) }
 {
     let rows = part_of(alloc, body, k, tables, outputs)?;
     let rows = into_rows(alloc, rows)?;
-    keep_rows(alloc, kind, rows)
+    keep_rows(alloc, kind, rows, outputs)
 }

@@ -120,7 +120,7 @@ returns-in-Some t c =
     c.get-in-Some.result.now c.get-in-Some.ensures c.in-Some.rest c.in-Some.ensures (rows_in rows) h) c.part_of-in-Some.ensures
 
 pub unreachable-requires : goal.unreachable-requires
-unreachable-requires t c = not_built c.args.body.now c.in-Exchange.is c.requires.body
+unreachable-requires t c = not_built c.args.body.now c.in-Exchange.to c.in-Exchange.child c.in-Exchange.is c.requires.body
 
 pub made-requires : goal.made-requires
 made-requires t c =
