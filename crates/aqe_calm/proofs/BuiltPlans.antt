@@ -1,4 +1,4 @@
--- The plans of a run are of the forms that tasks carry out so far, and each of them has a part.
+-- The plans of a run are of the forms that tasks carry out, and each of them has a part.
 use Rattle.std.proofs.Common.{refl, sym, subst, ◌≤◌, zero, suc, ℕ, Bool, true, false, ◌&&◌, length, arith}
 use Rattle.std.specs.Prelude.{IsTrue}
 use Rattle.aqe_base.specs.declared.stage_id.StageId.{StageId}
@@ -25,13 +25,13 @@ use Rattle.aqe_logical.specs.WellFormed.{IsOfAQuery}
 use Rattle.aqe_logical.proofs.Nodes as logical_walk
 use Rattle.aqe_fit_laws.specs.Leaves.{IsPlannedYet}
 use Rattle.aqe_fit_laws.specs.Serving.{IsNoExchange}
-use Rattle.aqe_task.specs.Built.{is_built, IsBuiltBody, IsBuiltKind}
+use Rattle.aqe_task.specs.Built.{is_built, IsBuiltBody}
 use Rattle.std.proofs.lemmas.List.FromFn.{length-map-range_with_len}
 
 -- such a plan has a part
 to_count : (to : Target) → IsBuiltTo to → 1 ≤ target_count to
 to_count (target.Hash keys n) h = h
-to_count (target.Range keys n sample) h = absurd h
+to_count (target.Range keys n sample) h = h
 to_count target.Single h = omega arith
 to_count target.Broadcast h = omega arith
 
@@ -54,7 +54,7 @@ some_part (moved to p) h = to_count to h.0
 some_part (matched how kind keys v w p q) h = join_parts how (part_count p) (part_count q) (some_part p h.1) (some_part q h.2)
 some_part (grouped keys calls p) h = some_part p h.1
 some_part (finished keys calls p) h = some_part p h.1
-some_part (ordered keys p) h = absurd h.0
+some_part (ordered keys p) h = some_part p h.1
 some_part (cut_locally count p) h = some_part p h.1
 some_part (cut_globally count skip p) h = some_part p h.1
 some_part (both_of p q) h = let some = some_part p h.1 in omega (arith, some)
@@ -76,7 +76,7 @@ built_body (moved to p) h e = absurd e.0
 built_body (matched how kind keys v w p q) h e = both_built (is_built p) (is_built q) (built_body p h.1 e.1) (built_body q h.2 e.2)
 built_body (grouped keys calls p) h e = built_body p h.1 e.1
 built_body (finished keys calls p) h e = built_body p h.1 e.1
-built_body (ordered keys p) h e = absurd h.0
+built_body (ordered keys p) h e = built_body p h.1 e.1
 built_body (cut_locally count p) h e = built_body p h.1 e.1
 built_body (cut_globally count skip p) h e = built_body p h.1 e.1
 built_body (both_of p q) h e = both_built (is_built p) (is_built q) (built_body p h.1 e.1) (built_body q h.2 e.2)
@@ -88,7 +88,7 @@ read_part number to child h = let many = length-map-range_with_len (plain_rect (
 pub built_stays : (number : StageId) (p q : Plan) (stage : Stage) → Made number p stage q → Each IsBuiltNode p → Each IsBuiltNode q
 built_stays number p q stage (shuffled to child s) h = read_part number to child h.0
 built_stays number p q stage (broadcasted child) h = tt
-built_stays number p q stage (sampled keys n child) h = absurd h.0
+built_stays number p q stage (sampled keys n child) h = h
 built_stays number p q stage (in_kept c x y st m) h = (tt, built_stays number x y st m h.1)
 built_stays number p q stage (in_mapped items x y st m) h = (tt, built_stays number x y st m h.1)
 built_stays number p q stage (in_moved to x y st m) h = (h.0, built_stays number x y st m h.1)
@@ -96,32 +96,11 @@ built_stays number p q stage (in_left how k keys v w x y other st m) h = (tt, bu
 built_stays number p q stage (in_right how k keys v w other x y st m) h = (tt, h.1, built_stays number x y st m h.2)
 built_stays number p q stage (in_grouped keys calls x y st m) h = (tt, built_stays number x y st m h.1)
 built_stays number p q stage (in_finished n calls x y st m) h = (tt, built_stays number x y st m h.1)
-built_stays number p q stage (in_ordered keys x y st m) h = absurd h.0
+built_stays number p q stage (in_ordered keys x y st m) h = (tt, built_stays number x y st m h.1)
 built_stays number p q stage (in_cut_locally n x y st m) h = (tt, built_stays number x y st m h.1)
 built_stays number p q stage (in_cut_globally n k x y st m) h = (tt, built_stays number x y st m h.1)
 built_stays number p q stage (in_first x y other st m) h = (tt, built_stays number x y st m h.1, h.2)
 built_stays number p q stage (in_second other x y st m) h = (tt, h.1, built_stays number x y st m h.2)
-
--- and the kinds of stages are those that tasks carry out
-pub built_kind : (number : StageId) (p q : Plan) (stage : Stage) → Made number p stage q → Each IsBuiltNode p → IsBuiltKind stage.kind
-built_kind number p q stage (shuffled (target.Hash keys n) child s) h = refl
-built_kind number p q stage (shuffled (target.Range keys n sample) child s) h = absurd h.0
-built_kind number p q stage (shuffled target.Single child s) h = refl
-built_kind number p q stage (shuffled target.Broadcast child s) h = refl
-built_kind number p q stage (broadcasted child) h = refl
-built_kind number p q stage (sampled keys n child) h = absurd h.0
-built_kind number p q stage (in_kept c x y st m) h = built_kind number x y st m h.1
-built_kind number p q stage (in_mapped items x y st m) h = built_kind number x y st m h.1
-built_kind number p q stage (in_moved to x y st m) h = built_kind number x y st m h.1
-built_kind number p q stage (in_left how k keys v w x y other st m) h = built_kind number x y st m h.1
-built_kind number p q stage (in_right how k keys v w other x y st m) h = built_kind number x y st m h.2
-built_kind number p q stage (in_grouped keys calls x y st m) h = built_kind number x y st m h.1
-built_kind number p q stage (in_finished n calls x y st m) h = built_kind number x y st m h.1
-built_kind number p q stage (in_ordered keys x y st m) h = absurd h.0
-built_kind number p q stage (in_cut_locally n x y st m) h = built_kind number x y st m h.1
-built_kind number p q stage (in_cut_globally n k x y st m) h = built_kind number x y st m h.1
-built_kind number p q stage (in_first x y other st m) h = built_kind number x y st m h.1
-built_kind number p q stage (in_second other x y st m) h = built_kind number x y st m h.2
 
 -- the first plan is of these forms
 module _ (ways : JoinKind → Logical → Logical → JoinWay → Type 0) (n : ℕ) (files : ℕ → ℕ) (some : 1 ≤ n) where
@@ -155,8 +134,8 @@ module _ (ways : JoinKind → Logical → Logical → JoinWay → Type 0) (n : �
       (tt, (subst IsBuiltTo (sym t) (sends count), (tt, built_first z r u d y.1 q.1)))
   built_first x p w (table.groups_read stage calls schema count maps reducers rects out c o) y q = absurd q
   built_first x p w (table.a_union a b r t u z d e) y q = (tt, built_first a r u d y.1 q.1, built_first b t z e y.2 q.2)
-  built_first x p w (table.sort_here keys z r u d s) y q = absurd y.0
-  built_first x p w (table.sort_moved keys sample z r u d s m) y q = absurd y.0
+  built_first x p w (table.sort_here keys z r u d s) y q = (tt, built_first z r u d y.1 q.1)
+  built_first x p w (table.sort_moved keys sample z r u d s m) y q = (tt, (some, built_first z r u d y.1 q.1))
   built_first x p w (table.limit_here count skip z r u d s) y q = (tt, built_first z r u d y.1 q.1)
   built_first x p w (table.limit_moved count skip first z r u d s e) y q = (tt, (tt, (tt, built_first z r u d y.1 q.1)))
   built_first x p w (table.skip_moved skip z r u d s) y q = (tt, (tt, built_first z r u d y.1 q.1))

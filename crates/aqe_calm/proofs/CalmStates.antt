@@ -36,7 +36,7 @@ use Rattle.aqe_journal.proofs.StagesRun.{step, result_step, marked, happened, bo
 use Rattle.aqe_endings.proofs.Endings.{MayEnd, next_counts}
 use Rattle.aqe_calm.specs.Forms.{IsBuiltNode, IsCarriedOut}
 use Rattle.aqe_calm.specs.Calm.{CalmHistory, Calm, parts_over, IsAnswerAt}
-use Rattle.aqe_calm.proofs.BuiltPlans.{some_part, built_body, built_stays, built_kind}
+use Rattle.aqe_calm.proofs.BuiltPlans.{some_part, built_body, built_stays}
 use Rattle.aqe_calm.proofs.Calm.{calm_marked, calm_added, calm_ended}
 use Rattle.aqe_bodies.proofs.MadeRuns.{first_of}
 use Rattle.aqe_journal.proofs.StagesRun.{below_up}
@@ -46,6 +46,7 @@ use Rattle.aqe_journal.specs.Needed.{needed_stages}
 use Rattle.aqe_journal.specs.States.{is_whole}
 use Rattle.aqe_making.specs.After.{read_after}
 use Rattle.aqe_calm.proofs.Results.{no_result}
+use Rattle.aqe_calm.proofs.MadeKinds.{kind_below}
 use Rattle.aqe_stages.specs.Reads.{task_needs}
 use Rattle.std.proofs.lemmas.List.{append_assoc}
 use Rattle.std.proofs.lemmas.List.FromFn.{length-map-range_with_len}
@@ -69,7 +70,7 @@ answers_more asked first stages stage unread all one s = elim (cases_lt s (lengt
   where
     older : (o : Option Stage) → s < length stages → IsAnswerAt asked first stages s o → IsAnswerAt asked first (stages ++ stage ∷ []) s o
     older None lt a = tt
-    older (Some st) lt a = (a.0, λ is. parts_stay asked.tables stages (stage ∷ []) st.body (below_more s (length stages) (omega (arith, lt)) st.body a.0) ∙ a.1 is ∙ sym (first_stays asked first stages (stage ∷ []) unread))
+    older (Some st) lt a = (a.0, a.1, λ is. parts_stay asked.tables stages (stage ∷ []) st.body (below_more s (length stages) (omega (arith, lt)) st.body a.0) ∙ a.2 is ∙ sym (first_stays asked first stages (stage ∷ []) unread))
 
     newer : (s ≡ length stages) ⊎ (s ≡ length stages → ⊥) → length stages ≤ s → IsAnswerAt asked first (stages ++ stage ∷ []) s (slice_get (stages ++ stage ∷ []) s)
     newer (inl is) ge = subst (λ k. IsAnswerAt asked first (stages ++ stage ∷ []) k (slice_get (stages ++ stage ∷ []) k)) (sym is)
@@ -103,14 +104,19 @@ exchange_made asked first now making c at none =
     let m : Made number now.plan making.stage next = made_at number making.place now.plan making.stage at in
     let body = body_each IsBuiltNode number now.plan next making.stage m (each IsBuiltNode now.plan c.built) in
     let some = some_part making.stage.body body in
+    let below = each (ReadsBelowAt (length now.stages)) now.plan c.steady.below in
     record {
       steady = step asked now making c.steady at none;
       versions = c.versions;
       unread = c.unread;
       serves = made_keeps asked.tables now.stages number now.plan next making.stage refl c.steady.below m ∙ c.serves ∙ sym (first_stays asked first now.stages (making.stage ∷ []) c.unread);
-      answers = answers_more asked first now.stages making.stage c.unread c.answers (all_nodes (ReadsBelowAt (length now.stages)) making.stage.body (body_each (ReadsBelowAt (length now.stages)) number now.plan next making.stage m (each (ReadsBelowAt (length now.stages)) now.plan c.steady.below)), λ is. absurd (not_result number now.plan next making.stage m is));
+      answers = answers_more asked first now.stages making.stage c.unread c.answers (
+        all_nodes (ReadsBelowAt (length now.stages)) making.stage.body (body_each (ReadsBelowAt (length now.stages)) number now.plan next making.stage m below),
+        kind_below (length now.stages) number now.plan next making.stage m below,
+        λ is. absurd (not_result number now.plan next making.stage m is),
+      );
       built = all_nodes IsBuiltNode next (built_stays number now.plan next making.stage m (each IsBuiltNode now.plan c.built));
-      carried = carried_more now.stages making.stage c.carried (built_body making.stage.body body (each IsNoExchange making.stage.body none), built_kind number now.plan next making.stage m (each IsBuiltNode now.plan c.built), some);
+      carried = carried_more now.stages making.stage c.carried (built_body making.stage.body body (each IsNoExchange making.stage.body none), some);
       events = added now making some c.events;
     }
 
@@ -129,9 +135,9 @@ result_made asked first now c none =
       versions = c.versions;
       unread = c.unread;
       serves = ap (λ p. parts_over asked (now.stages ++ stage ∷ []) p) put ∙ stays;
-      answers = answers_more asked first now.stages stage c.unread c.answers (c.steady.below, λ is. stays);
+      answers = answers_more asked first now.stages stage c.unread c.answers (c.steady.below, tt, λ is. stays);
       built = subst (λ p. All IsBuiltNode (nodes p)) (sym put) c.built;
-      carried = carried_more now.stages stage c.carried (built_body now.plan (each IsBuiltNode now.plan c.built) (each IsNoExchange now.plan none), refl, some);
+      carried = carried_more now.stages stage c.carried (built_body now.plan (each IsBuiltNode now.plan c.built) (each IsNoExchange now.plan none), some);
       events = added now (result_of now.plan) some c.events;
     }
 

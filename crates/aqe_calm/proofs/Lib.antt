@@ -1,6 +1,7 @@
 pub mod BuiltPlans
 pub mod Calm
 pub mod Results
+pub mod MadeKinds
 pub mod CalmStates
 pub mod Served
 pub mod Consequences

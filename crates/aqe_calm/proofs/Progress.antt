@@ -29,7 +29,7 @@ use Rattle.aqe_stages.specs.Reads as reads
 use Rattle.aqe_stages.specs.Reads.{ReadsBelow, ReadsBelowAt, needs, task_needs, rect_needs, join_needs}
 use Rattle.aqe_stages.specs.Runnable.{CanRun, OfStage, Narrow, reducers_of}
 use Rattle.aqe_stages.specs.Parts.{all}
-use Rattle.aqe_making.specs.Ready.{is_ready}
+use Rattle.aqe_making.specs.Ready.{is_ready, sample_ready}
 use Rattle.aqe_making.specs.Makings.{Making, makings, all_makings, result_of, below, made_here, stage_of}
 use Rattle.aqe_making.specs.After.{after, read_after, stage_at}
 use Rattle.aqe_making.proofs.Standing.{standing, are_ready, made_at}
@@ -54,9 +54,9 @@ use Rattle.aqe_journal.proofs.StagesRun.{no_exchange, stays_put, carried_out}
 use Rattle.aqe_journal.specs.Steady.{Kept}
 use Rattle.aqe_journal.specs.Laws.{IsSound}
 use Rattle.aqe_journal.specs.States.{first_state}
-use Rattle.aqe_task.specs.Built.{is_built, IsBuiltBody, IsBuiltKind}
-use Rattle.aqe_calm.specs.Forms.{IsBuiltTo, IsBuiltNode, IsCarriedOut}
-use Rattle.aqe_calm.specs.Calm.{Calm, IsAnswerAt}
+use Rattle.aqe_task.specs.Built.{is_built, IsBuiltBody}
+use Rattle.aqe_calm.specs.Forms.{IsBuiltNode, IsCarriedOut}
+use Rattle.aqe_calm.specs.Calm.{Calm, IsAnswerAt, KindBelow}
 use Rattle.aqe_calm.specs.Laws.{Reaches, TasksAreLeft}
 use Rattle.aqe_calm.proofs.Calm.{born_many, not_whole}
 use Rattle.aqe_calm.proofs.CalmStates.{exchange_made, result_made, calm_event, reads_many}
@@ -128,23 +128,25 @@ open_read w (ReadBroadcast stage) b none f = record { stage = stage.0; read = ap
 open_read w (kept c p) b none f = below_reads w p (kept c p) (λ s r. r) (open_read w p b.1 (empty_map (below Left) (makings w p) none) f)
 open_read w (mapped items p) b none f = below_reads w p (mapped items p) (λ s r. r) (open_read w p b.1 (empty_map (below Left) (makings w p) none) f)
 open_read w (moved to p) b none f =
-    below_reads w p (moved to p) (λ s r. or_true (target_reads s to) (plan_reads p s) r)
-    (open_read w p b.1 (empty_map (below Left) (makings w p) (empty_left (map (below Left) (makings w p)) (made_here w to p) none))
-    (unready to b.0 (empty_right (map (below Left) (makings w p)) (made_here w to p) none)))
+    at_exchange (cases_Bool (is_ready w p)) (empty_right (map (below Left) (makings w p)) (made_here w to p) none)
+    (λ e. open_read w p b.1 (empty_map (below Left) (makings w p) (empty_left (map (below Left) (makings w p)) (made_here w to p) none)) e)
   where
     cond_none : {X : Type 0} (c : Bool) (x : X) → cond c (x ∷ []) [] ≡ [] → c ≡ false
     cond_none true x e = absurd (no_item e)
     cond_none false x e = refl
 
-    and_true : (c : Bool) → (c && true) ≡ c
-    and_true true = refl
-    and_true false = refl
+    -- a range waits for the sample that it names
+    open_sample : (to : Target) → sample_ready w to ≡ false → OpenRead w (moved to p)
+    open_sample (target.Hash keys n) e = absurd (clash (sym e))
+    open_sample (target.Range keys n None) e = absurd (clash (sym e))
+    open_sample (target.Range keys n (Some stage)) e = record { stage = stage.0; read = ap (λ c. c || plan_reads p stage.0) (self stage.0); unwhole = e }
+    open_sample target.Single e = absurd (clash (sym e))
+    open_sample target.Broadcast e = absurd (clash (sym e))
 
-    unready : (to : Target) → IsBuiltTo to → made_here w to p ≡ [] → is_ready w p ≡ false
-    unready (target.Hash keys n) bt e = sym (and_true (is_ready w p)) ∙ cond_none (is_ready w p && true) (record { place = []; stage = stage_of (target.Hash keys n) p }) e
-    unready (target.Range keys n sample) bt e = absurd bt
-    unready target.Single bt e = sym (and_true (is_ready w p)) ∙ cond_none (is_ready w p && true) (record { place = []; stage = stage_of target.Single p }) e
-    unready target.Broadcast bt e = sym (and_true (is_ready w p)) ∙ cond_none (is_ready w p && true) (record { place = []; stage = stage_of target.Broadcast p }) e
+    at_exchange : (is_ready w p ≡ true) ⊎ (is_ready w p ≡ false) → made_here w to p ≡ [] → (is_ready w p ≡ false → OpenRead w p) → OpenRead w (moved to p)
+    at_exchange (inl ready) e rest =
+        open_sample to (ap (λ c. c && sample_ready w to) (sym ready) ∙ cond_none (is_ready w p && sample_ready w to) (record { place = []; stage = stage_of to p }) e)
+    at_exchange (inr unready) e rest = below_reads w p (moved to p) (λ s r. or_true (target_reads s to) (plan_reads p s) r) (rest unready)
 open_read w (matched how k keys v u p q) b none f =
     at_side (is_ready w p) refl
     (λ e. open_read w p b.1 (empty_map (below Left) (makings w p) (empty_left (map (below Left) (makings w p)) (map (below Right) (makings w q)) none)) e)
@@ -156,7 +158,7 @@ open_read w (matched how k keys v u p q) b none f =
         below_reads w q (matched how k keys v u p q) (λ s r. any_right (node_reads s) (nodes p) (nodes q) r) (right (sym (ap (λ c. c && is_ready w q) e) ∙ f))
 open_read w (grouped keys calls p) b none f = below_reads w p (grouped keys calls p) (λ s r. r) (open_read w p b.1 (empty_map (below Left) (makings w p) none) f)
 open_read w (finished n calls p) b none f = below_reads w p (finished n calls p) (λ s r. r) (open_read w p b.1 (empty_map (below Left) (makings w p) none) f)
-open_read w (ordered keys p) b none f = absurd b.0
+open_read w (ordered keys p) b none f = below_reads w p (ordered keys p) (λ s r. r) (open_read w p b.1 (empty_map (below Left) (makings w p) none) f)
 open_read w (cut_locally n p) b none f = below_reads w p (cut_locally n p) (λ s r. r) (open_read w p b.1 (empty_map (below Left) (makings w p) none) f)
 open_read w (cut_globally n k p) b none f = below_reads w p (cut_globally n k p) (λ s r. r) (open_read w p b.1 (empty_map (below Left) (makings w p) none) f)
 open_read w (both_of p q) b none f =
@@ -168,7 +170,20 @@ open_read w (both_of p q) b none f =
     at_side false e left right = below_reads w p (both_of p q) (λ s r. any_left (node_reads s) (nodes p) (nodes q) r) (left e)
     at_side true e left right = below_reads w q (both_of p q) (λ s r. any_right (node_reads s) (nodes p) (nodes q) r) (right (sym (ap (λ c. c && is_ready w q) e) ∙ f))
 
--- a plan reads stages below a number
+-- a plan reads stages below a number, and so does the kind of a stage
+target_below : (n : ℕ) (to : Target) → reads.SampleBelow n to → (s : ℕ) → target_reads s to ≡ true → s < n
+target_below n (target.Range keys m (Some stage)) b s r = subst (λ k. k < n) (eqb-true stage.0 s r) b
+target_below n (target.Range keys m None) b s r = absurd (clash r)
+target_below n (target.Hash keys m) b s r = absurd (clash r)
+target_below n target.Single b s r = absurd (clash r)
+target_below n target.Broadcast b s r = absurd (clash r)
+
+kind_reads_below : (n : ℕ) (what : StageKind) → KindBelow n what → (s : ℕ) → kind_reads s what ≡ true → s < n
+kind_reads_below n (kind.Shuffle to) b s r = target_below n to b s r
+kind_reads_below n kind.Broadcast b s r = absurd (clash r)
+kind_reads_below n (kind.Sample keys) b s r = absurd (clash r)
+kind_reads_below n kind.Result b s r = absurd (clash r)
+
 reads_below : (n : ℕ) (ps : List Plan) → All (ReadsBelowAt n) ps → (s : ℕ) → list_any (node_reads s) ps ≡ true → s < n
 reads_below n [] all s r = absurd (clash r)
 reads_below n (p ∷ ps) all s r = elim (cases_Bool (node_reads s p)) [
@@ -176,17 +191,10 @@ reads_below n (p ∷ ps) all s r = elim (cases_Bool (node_reads s p)) [
   | inr not_here ↦ reads_below n ps (All-tail (ReadsBelowAt n) p ps all) s (ap (λ c. c || list_any (node_reads s) ps) (sym not_here) ∙ r)
 ]
   where
-    at_target : (to : Target) → reads.SampleBelow n to → target_reads s to ≡ true → s < n
-    at_target (target.Range keys m (Some stage)) b r = subst (λ k. k < n) (eqb-true stage.0 s r) b
-    at_target (target.Range keys m None) b r = absurd (clash r)
-    at_target (target.Hash keys m) b r = absurd (clash r)
-    at_target target.Single b r = absurd (clash r)
-    at_target target.Broadcast b r = absurd (clash r)
-
     at : (p : Plan) → ReadsBelowAt n p → node_reads s p ≡ true → s < n
     at (Read stage maps reducers rects) b r = subst (λ k. k < n) (eqb-true stage.0 s r) b
     at (ReadBroadcast stage) b r = subst (λ k. k < n) (eqb-true stage.0 s r) b
-    at (moved to child) b r = at_target to b r
+    at (moved to child) b r = target_below n to b s r
     at OneRow b r = absurd (clash r)
     at (Scan table files) b r = absurd (clash r)
     at (Nothing count width) b r = absurd (clash r)
@@ -321,7 +329,7 @@ record Gone (w : ℕ → Bool) (now : State) : Type 0 where
 whole_made : (asked : Asked) (first : Plan) (now : State) (making : Making) → Calm asked first now → Calm asked first (with_stage now making) → (s : ℕ) → is_whole (with_stage now making) s ≡ is_whole now s
 whole_made asked first now making c d s =
     let n = length now.stages in
-    let few : 1 ≤ part_count making.stage.body = (all_at IsCarriedOut (now.stages ++ making.stage ∷ []) n making.stage d.carried (last_one now.stages making.stage)).2 in
+    let few : 1 ≤ part_count making.stage.body = (all_at IsCarriedOut (now.stages ++ making.stage ∷ []) n making.stage d.carried (last_one now.stages making.stage)).1 in
     let reads_are = reads_many now.stages making.stage in
     let many = born_many now.stages (history now) c.events in
     ap (λ h. whole h s) (noted_more now.entries (Adds (birth_over now.stages making.stage)))
@@ -542,6 +550,9 @@ module _ (tables : Tables) (stages prefix : Stages) (h : List Step) (counts : (p
       most rect one = one.0
   rects_fed stage reducers (rect ∷ rects) (suc k) is lies = rects_fed stage reducers rects k is (All-tail (λ (rect : Rect). LiesWithin (task_count (births h) stage.0) reducers rect) rect rects lies)
 
+  all_fed : (stage : StageId) → whole h stage.0 ≡ true → has_inputs (done h) (map (need_over prefix) (reads.all_maps stage.0 ∷ [])) ≡ true
+  all_fed stage is = ap (λ b. b && true) (whole_range stage.0 0 (map_count prefix stage.0) is (few stage.0))
+
   abbrev AreIn : List reads.Need → Type 0
   AreIn wanted = has_inputs (done h) (map (need_over prefix) wanted) ≡ true
 
@@ -577,8 +588,7 @@ module _ (tables : Tables) (stages prefix : Stages) (h : List Step) (counts : (p
       let spoken = of_stage stages stage.0 (λ read. All (LiesWithin (part_count read.body) (reducers_of read.kind)) rects) r.0 in
       rects_fed stage (reducers_of spoken.stage.kind) rects k (all stage.0 (ap (λ c. c || false) (self stage.0)))
       (subst (λ n. All (λ rect. LiesWithin n (reducers_of spoken.stage.kind) rect) rects) (sym (counts stage.0 spoken.stage spoken.at)) spoken.holds)
-  fed (ReadBroadcast stage) k b r all =
-      ap (λ b. b && true) (whole_range stage.0 0 (map_count prefix stage.0) (all stage.0 (ap (λ c. c || false) (self stage.0))) (few stage.0))
+  fed (ReadBroadcast stage) k b r all = all_fed stage (all stage.0 (ap (λ c. c || false) (self stage.0)))
   fed (kept c p) k b r all = fed p k b r.1 all
   fed (mapped items p) k b r all = fed p k b r.1 all
   fed (moved to p) k b r all = absurd (clash b)
@@ -589,7 +599,7 @@ module _ (tables : Tables) (stages prefix : Stages) (h : List Step) (counts : (p
       (right k) (each_in (needs q) (range_with_len 0 (part_count q)) right)
   fed (grouped keys calls p) k b r all = fed p k b r.1 all
   fed (finished n calls p) k b r all = fed p k b r.1 all
-  fed (ordered keys p) k b r all = absurd (clash b)
+  fed (ordered keys p) k b r all = fed p k b r.1 all
   fed (cut_locally n p) k b r all = fed p k b r.1 all
   fed (cut_globally n m p) k b r all = fed p k b r.1 all
   fed (both_of p q) k b r all =
@@ -597,14 +607,19 @@ module _ (tables : Tables) (stages prefix : Stages) (h : List Step) (counts : (p
       (fed p k (both_left (is_built p) (is_built q) b) r.1 (λ s e. all s (any_left (node_reads s) (nodes p) (nodes q) e)))
       (fed q (k - part_count p) (both_right (is_built p) (is_built q) b) r.2 (λ s e. all s (any_right (node_reads s) (nodes p) (nodes q) e)))
 
-  task_fed : (what : StageKind) (body : Plan) (k : ℕ) → IsBuiltKind what → has_inputs (done h) (map (need_over prefix) (needs body k)) ≡ true → has_inputs (done h) (map (need_over prefix) (task_needs what body k)) ≡ true
-  task_fed (kind.Shuffle (target.Hash keys n)) body k b e = e
-  task_fed (kind.Shuffle (target.Range keys n sample)) body k b e = absurd (clash b)
-  task_fed (kind.Shuffle target.Single) body k b e = e
-  task_fed (kind.Shuffle target.Broadcast) body k b e = e
-  task_fed kind.Broadcast body k b e = e
-  task_fed (kind.Sample keys) body k b e = absurd (clash b)
-  task_fed kind.Result body k b e = e
+  -- and the samples that the kind of its stage names
+  sample_fed : (to : Target) → ((p : ℕ) → target_reads p to ≡ true → whole h p ≡ true) → AreIn (reads.sample_needs to)
+  sample_fed (target.Hash keys n) all = refl
+  sample_fed (target.Range keys n None) all = refl
+  sample_fed (target.Range keys n (Some stage)) all = all_fed stage (all stage.0 (self stage.0))
+  sample_fed target.Single all = refl
+  sample_fed target.Broadcast all = refl
+
+  task_fed : (what : StageKind) (body : Plan) (k : ℕ) → ((p : ℕ) → kind_reads p what ≡ true → whole h p ≡ true) → AreIn (needs body k) → AreIn (task_needs what body k)
+  task_fed (kind.Shuffle to) body k all e = both_in (reads.sample_needs to) (needs body k) (sample_fed to all) e
+  task_fed kind.Broadcast body k all e = e
+  task_fed (kind.Sample keys) body k all e = e
+  task_fed kind.Result body k all e = e
 
 marked_below : (marks : List Bool) (k : ℕ) → mark_at marks k ≡ true → k < length marks
 marked_below [] k e = absurd (clash e)
@@ -707,12 +722,14 @@ module _ (asked : Asked) (now : State) (r : Reaches asked now) (undone : is_done
       let counts : (p : ℕ) (other : Stage) → slice_get now.stages p ≡ Some other → task_count (births h) p ≡ part_count other.body =
       λ p other e. ap tasks_in (ap (λ bs. slice_get bs p) calm.events.births ∙ births_at [] now.stages p other e) ∙ reads_many (take p now.stages) other in
       let few : (p : ℕ) → map_count (take s now.stages) p ≤ task_count (births h) p = λ p. maps_few s p counts in
-      let whole_reads : (p : ℕ) → plan_reads stage.body p ≡ true → w p ≡ true =
-      λ p reads_it.
-      let less = reads_below s (nodes stage.body) answer.0 p reads_it in
-      let marked_p = marks_later w now.plan 0 now.stages p s stage less st.1 is_marked (ap w (none_more s) ∙ open_here)
-      (ap (stage_reads stage) (none_more p) ∙ or_true (kind_reads p stage.kind) (plan_reads stage.body p) reads_it) in
+      let whole_read : (p : ℕ) → p < s → stage_reads stage p ≡ true → w p ≡ true =
+      λ p less reads_it.
+      let marked_p = marks_later w now.plan 0 now.stages p s stage less st.1 is_marked (ap w (none_more s) ∙ open_here) (ap (stage_reads stage) (none_more p) ∙ reads_it) in
       not_true (w p) (sym (ap (λ b. b && not (w p)) marked_p) ∙ lowest.others p less) in
+      let body_whole : (p : ℕ) → plan_reads stage.body p ≡ true → w p ≡ true =
+      λ p e. whole_read p (reads_below s (nodes stage.body) answer.0 p e) (or_true (kind_reads p stage.kind) (plan_reads stage.body p) e) in
+      let kind_whole : (p : ℕ) → kind_reads p stage.kind ≡ true → w p ≡ true =
+      λ p e. whole_read p (kind_reads_below s stage.kind answer.1 p e) (ap (λ b. b || plan_reads stage.body p) e) in
       let birth : slice_get (births h) s ≡ Some (birth_over (take s now.stages) stage) = ap (λ bs. slice_get bs s) calm.events.births ∙ births_at [] now.stages s stage st.1 in
       let many = counts s stage st.1 in
       let undone_task = not_all (done h s) 0 (task_count (births h) s) (sym (ap (λ o. is_some o && list_all (done h s) (range_with_len 0 (task_count (births h) s))) birth) ∙ open_here) in
@@ -726,8 +743,8 @@ module _ (asked : Asked) (now : State) (r : Reaches asked now) (undone : is_done
       ∙ ap (λ k. Some (map (need_over (take s now.stages)) (task_needs stage.kind stage.body k))) zero_more in
       let inputs : has_inputs (done h) (unwrap_or (task_reads (births h) s t) []) ≡ true =
       ap (λ o. has_inputs (done h) (unwrap_or o [])) reads_are
-      ∙ task_fed asked.tables now.stages (take s now.stages) h counts few stage.kind stage.body t forms.1
-      (fed asked.tables now.stages (take s now.stages) h counts few stage.body t forms.0 (each (Runs asked.tables now.stages (take s now.stages) h counts few) stage.body run.0) whole_reads) in
+      ∙ task_fed asked.tables now.stages (take s now.stages) h counts few stage.kind stage.body t kind_whole
+      (fed asked.tables now.stages (take s now.stages) h counts few stage.body t forms.0 (each (Runs asked.tables now.stages (take s now.stages) h counts few) stage.body run.0) body_whole) in
       let needed_here : needed h s ≡ true = stand.marks s lt ∙ is_marked in
       let may : may_end (births h) (needed h) (done h) (s, t) ≡ true = λ i. needed_here i && (not ((ap (done h s) (sym zero_more) ∙ undone_task.2) i) && inputs i) in
       let born_count = born_many now.stages h calm.events in

@@ -49,7 +49,7 @@ result_cells asked first now s stage c e result =
     ∙ ap (λ n. slice_index_or (g ++ output asked.tables g stage ∷ []) n []) (sym (given_count asked.tables r.before ∙ r.many))
     ∙ last_or g (output asked.tables g stage) []
     ∙ single_cells stage.kind result g body body
-    ∙ ap (map (λ part. part ∷ [])) (sym same ∙ a.1 result)
+    ∙ ap (map (λ part. part ∷ [])) (sym same ∙ a.2 result)
 
 -- the rows of parts that are one cell each
 pub all_single : (ps : List (List Row)) → all_rows (map (λ part. part ∷ []) ps) ≡ joined_parts ps

@@ -15,6 +15,7 @@ use Rattle.aqe_physical.specs.declared.plan.Plan.{Plan, OneRow, Scan, Nothing, R
 use Rattle.aqe_physical.specs.Shapes.{kept, mapped, moved, matched, grouped, finished, ordered, cut_locally, cut_globally, both_of}
 use Rattle.aqe_physical.specs.declared.target.StageKind.{StageKind}
 use Rattle.aqe_physical.specs.declared.target.StageKind.TheVariants as kind
+use Rattle.aqe_physical.specs.declared.target.Target.{Target}
 use Rattle.aqe_physical.specs.declared.target.Target.TheVariants as target
 use Rattle.aqe_physical.specs.Counts.{part_count}
 use Rattle.aqe_physical.specs.declared.target.JoinWay.{JoinWay}
@@ -29,7 +30,7 @@ use Rattle.aqe_scheduler.specs.History.{Step}
 use Rattle.aqe_scheduler.specs.Looks.{births, done}
 use Rattle.aqe_scheduler.specs.Fates.{has_inputs, maps_of, task_reads}
 use Rattle.aqe_scheduler.specs.declared.need.Need.{Need}
-use Rattle.aqe_task.specs.Built.{is_built, IsBuiltBody, IsBuiltKind}
+use Rattle.aqe_task.specs.Built.{is_built, IsBuiltBody}
 use Rattle.aqe_task.specs.Tasks.{IsKept, IsMet}
 use Rattle.aqe_journal.specs.Needed.{need_over, birth_over, map_count, maps_in}
 use Rattle.aqe_calm.specs.Calm.{births_over}
@@ -41,7 +42,7 @@ use Rattle.aqe_journal.specs.States.{State, history}
 use Rattle.aqe_journal.specs.Steady.{Kept}
 use Rattle.aqe_journal.proofs.StagesRun.{carried_out}
 use Rattle.aqe_calm.specs.Forms.{IsCarriedOut}
-use Rattle.aqe_calm.specs.Calm.{Calm, IsAnswerAt}
+use Rattle.aqe_calm.specs.Calm.{Calm, IsAnswerAt, KindBelow}
 use Rattle.aqe_calm.specs.Laws.{KeepsCounted}
 use Rattle.aqe_calm.proofs.HeldCells.{cells_many}
 use Rattle.aqe_calm.proofs.Calm.{stage_there}
@@ -150,6 +151,11 @@ module _ (tables : Tables) (stages : Stages) (n : ℕ) (outputs : AllKept) (h : 
             ∙ sym (slice_get_past (cells tables stages s) m (omega (arith, high, held)))
       ]
 
+  all_met : (stage : StageId) → stage.0 < n → has_inputs (done h) (need_over prefix (reads.all_maps stage.0) ∷ []) ≡ true → All (IsMet tables stages outputs) (reads.all_maps stage.0 ∷ [])
+  all_met stage lt all =
+      All-cons (IsMet tables stages outputs) (reads.all_maps stage.0) []
+      (whole_met stage.0 lt (both_left (list_all (done h stage.0) (range_with_len 0 (map_count prefix stage.0 - 0))) true all)) (All-nil (IsMet tables stages outputs))
+
   abbrev Met : List reads.Need → Type 0
   Met wanted = All (IsMet tables stages outputs) wanted
 
@@ -181,9 +187,7 @@ module _ (tables : Tables) (stages : Stages) (n : ℕ) (outputs : AllKept) (h : 
   body_met (Scan table files) b r k all = All-nil (IsMet tables stages outputs)
   body_met (Nothing count width) b r k all = All-nil (IsMet tables stages outputs)
   body_met (Read stage maps reducers rects) b r k all = rects_met stage rects k all
-  body_met (ReadBroadcast stage) b r k all =
-      All-cons (IsMet tables stages outputs) (reads.all_maps stage.0) []
-      (whole_met stage.0 r (both_left (list_all (done h stage.0) (range_with_len 0 (map_count prefix stage.0 - 0))) true all)) (All-nil (IsMet tables stages outputs))
+  body_met (ReadBroadcast stage) b r k all = all_met stage r all
   body_met (kept test p) b r k all = body_met p b r.1 k all
   body_met (mapped items p) b r k all = body_met p b r.1 k all
   body_met (moved to p) b r k all = absurd (clash b)
@@ -194,21 +198,26 @@ module _ (tables : Tables) (stages : Stages) (n : ℕ) (outputs : AllKept) (h : 
       (right k) (each_met (needs q) (range_with_len 0 (part_count q)) right) all
   body_met (grouped keys calls p) b r k all = body_met p b r.1 k all
   body_met (finished keys calls p) b r k all = body_met p b r.1 k all
-  body_met (ordered keys p) b r k all = absurd (clash b)
+  body_met (ordered keys p) b r k all = body_met p b r.1 k all
   body_met (cut_locally count p) b r k all = body_met p b r.1 k all
   body_met (cut_globally count skip p) b r k all = body_met p b r.1 k all
   body_met (both_of p q) b r k all =
       one_met (nat_lt k (part_count p)) (needs p k) (needs q (k - part_count p))
       (body_met p (both_left (is_built p) (is_built q) b) r.1 k) (body_met q (both_right (is_built p) (is_built q) b) r.2 (k - part_count p)) all
 
-  task_met : (what : StageKind) (body : Plan) (k : ℕ) → IsBuiltKind what → IsBuiltBody body → Each (ReadsBelowAt n) body → has_inputs (done h) (map (need_over prefix) (task_needs what body k)) ≡ true → All (IsMet tables stages outputs) (task_needs what body k)
-  task_met (kind.Shuffle (target.Hash keys n)) body k b c r all = body_met body c r k all
-  task_met (kind.Shuffle (target.Range keys n sample)) body k b c r all = absurd (clash b)
-  task_met (kind.Shuffle target.Single) body k b c r all = body_met body c r k all
-  task_met (kind.Shuffle target.Broadcast) body k b c r all = body_met body c r k all
-  task_met kind.Broadcast body k b c r all = body_met body c r k all
-  task_met (kind.Sample keys) body k b c r all = absurd (clash b)
-  task_met kind.Result body k b c r all = body_met body c r k all
+  -- and so are the samples that the kind of its stage names
+  sample_met : (to : Target) → reads.SampleBelow n to → AreIn (reads.sample_needs to) → Met (reads.sample_needs to)
+  sample_met (target.Hash keys m) s all = All-nil (IsMet tables stages outputs)
+  sample_met (target.Range keys m None) s all = All-nil (IsMet tables stages outputs)
+  sample_met (target.Range keys m (Some stage)) s all = all_met stage s all
+  sample_met target.Single s all = All-nil (IsMet tables stages outputs)
+  sample_met target.Broadcast s all = All-nil (IsMet tables stages outputs)
+
+  task_met : (what : StageKind) (body : Plan) (k : ℕ) → KindBelow n what → IsBuiltBody body → Each (ReadsBelowAt n) body → AreIn (task_needs what body k) → Met (task_needs what body k)
+  task_met (kind.Shuffle to) body k s b r all = both_met (reads.sample_needs to) (needs body k) (sample_met to s) (body_met body b r k) all
+  task_met kind.Broadcast body k s b r all = body_met body b r k all
+  task_met (kind.Sample keys) body k s b r all = body_met body b r k all
+  task_met kind.Result body k s b r all = body_met body b r k all
 
 pub get_mapped : {X : Type 0} (f : ℕ → X) (a n t : ℕ) → t < n → slice_get (map f (range_with_len a n)) t ≡ Some (f (a + t))
 get_mapped f a zero t lt = absurd (omega (arith, lt))
@@ -238,7 +247,7 @@ served asked first now place stage outputs c m is exact =
       runs = run.0;
       keeps = run.1;
       within = within;
-      reads = task_met asked.tables now.stages s outputs h there.0 exact past stage.kind stage.body t forms.1 forms.0 (each (ReadsBelowAt s) stage.body a.0) (ap (has_inputs (done h)) (sym are) ∙ m.inputs);
+      reads = task_met asked.tables now.stages s outputs h there.0 exact past stage.kind stage.body t a.1 forms.0 (each (ReadsBelowAt s) stage.body a.0) (ap (has_inputs (done h)) (sym are) ∙ m.inputs);
     }
   where
     past : (p : ℕ) (other : Stage) → slice_get now.stages p ≡ Some other → (k : ℕ) → part_count other.body ≤ k → counted (history now) p k ≡ false

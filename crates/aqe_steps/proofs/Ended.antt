@@ -205,10 +205,9 @@ module _ (asked : Asked) (first : Plan) (now : State) (stage : StageId) (task : 
     gives_cells : (st : Stage) (made : List CellData) → slice_get now.stages stage.0 ≡ Some st → GivesTask asked.tables run.outputs st.kind st.body task.0 made →
         made ≡ slice_index_or (cells asked.tables now.stages stage.0) task.0 []
     gives_cells st made is gives =
-        let forms = all_at IsCarriedOut now.stages stage.0 st c.carried is in
         let serving = task_served st is in
         let a = subst (IsAnswerAt asked first now.stages stage.0) is (c.answers stage.0) in
-        gives now.stages serving ∙ cells_at asked.tables now.stages stage.0 st task.0 is a.0 forms.1 serving.within
+        gives now.stages serving ∙ cells_at asked.tables now.stages stage.0 st task.0 is a.0 a.1 serving.within
 
     gives_count : (st : Stage) (made : List CellData) → slice_get now.stages stage.0 ≡ Some st → GivesTask asked.tables run.outputs st.kind st.body task.0 made → length made ≡ reducers_of st.kind
     gives_count st made is gives =
@@ -223,7 +222,6 @@ module _ (asked : Asked) (first : Plan) (now : State) (stage : StageId) (task : 
           note = bare_note now stage.0 st;
           there = noted_there st is;
           body = forms.0;
-          kind = forms.1;
           stages = now.stages;
           served = task_served st is;
           alike = λ made gives. subst (λ n. HaveCells n (kept_of run.outputs stage.0)) (sym (gives_count st made is gives)) (subst (λ o. KeptOf o (kept_of run.outputs stage.0)) is (shows.cells stage.0));

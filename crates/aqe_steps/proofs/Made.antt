@@ -283,7 +283,7 @@ shows_made asked first now making rest run new c shows ready m =
     let now2 = with_stage now making in
     let n = length now.stages in
     let stage_there : slice_get now2.stages n ≡ Some making.stage = get_last now.stages making.stage in
-    let few : 1 ≤ part_count making.stage.body = (all_at IsCarriedOut now2.stages n making.stage d.carried stage_there).2 in
+    let few : 1 ≤ part_count making.stage.body = (all_at IsCarriedOut now2.stages n making.stage d.carried stage_there).1 in
     let number = number_is asked first now making c d run new shows m in (
       d,
       record {

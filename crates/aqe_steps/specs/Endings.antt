@@ -6,7 +6,7 @@ use Rattle.aqe_blocks.specs.Cells.{CellData}
 use Rattle.aqe_blocks.specs.Kept.{Changes, Becomes, HaveCells, kept_of, with_output}
 use Rattle.aqe_logical.specs.Answers.{Tables}
 use Rattle.aqe_stages.specs.Stages.{Stages}
-use Rattle.aqe_task.specs.Built.{IsBuiltBody, IsBuiltKind}
+use Rattle.aqe_task.specs.Built.{IsBuiltBody}
 use Rattle.aqe_task.specs.Tasks.{IsServedTask, GivesTask}
 use Rattle.aqe_scheduler.specs.declared.fate.Fate.{Fate}
 use Rattle.aqe_scheduler.specs.History.{Entry, Happens}
@@ -23,7 +23,6 @@ pub record CanEnd (tables : Tables) (run : Run) (stage : StageId) (task : ℕ) :
   pub note : StageNote
   pub there : slice_get run.stages.items stage.0 ≡ Some note
   pub body : IsBuiltBody note.body
-  pub kind : IsBuiltKind note.kind
   pub stages : Stages
   pub served : IsServedTask tables stages run.outputs note.kind note.body task
   pub alike : (made : List CellData) → GivesTask tables run.outputs note.kind note.body task made → HaveCells (length made) (kept_of run.outputs stage.0)
