@@ -10,7 +10,7 @@ use Rattle.aqe_logical.specs.declared.plan.AggCall.{AggCall}
 use Rattle.aqe_logical.specs.declared.plan.SortKey.{SortKey}
 use Rattle.aqe_logical.specs.declared.plan.Logical as logical
 use Rattle.aqe_logical.specs.declared.plan.Logical.{Logical}
-use Rattle.aqe_logical.specs.Shapes.{filtered, projected, joined, aggregated, united, limited}
+use Rattle.aqe_logical.specs.Shapes.{filtered, projected, joined, aggregated, united, sorted, limited}
 use Rattle.aqe_logical.specs.Nodes.{nodes}
 use Rattle.aqe_logical.specs.WellFormed.{IsLimitCount, IsLimitNumber}
 use Rattle.aqe_logical.proofs.Shapes as shapes
@@ -55,6 +55,9 @@ pub below-groups : (n : ℕ) (x : Logical) (keys : List Expr) (calls : List AggC
     Required n x → Required n z
 below-groups n x keys calls schema y z e f = below n x (aggregated keys calls schema y) y z (e ∙ shapes.is_aggregated keys calls schema y) refl refl f
 
+pub below-sort : (n : ℕ) (x : Logical) (keys : List SortKey) (y z : Logical) → x ≡ logical.Sort keys y → z ≡ y → Required n x → Required n z
+below-sort n x keys y z e f = below n x (sorted keys y) y z (e ∙ shapes.is_sorted keys y) refl refl f
+
 pub below-limit : (n : ℕ) (x : Logical) (count : Option ℕ) (skip : ℕ) (y z : Logical) → x ≡ logical.Limit count skip y → z ≡ y → Required n x → Required n z
 below-limit n x count skip y z e f = below n x (limited count skip y) y z (e ∙ shapes.is_limited count skip y) refl refl f
 
@@ -71,11 +74,8 @@ reach-scan n x t schema e h = All-head (IsReached n) (logical.Scan t schema) [] 
 pub limit-numbers : (x : Logical) (count : Option ℕ) (skip : ℕ) (y : Logical) → x ≡ logical.Limit count skip y → LimitsFit x → IsLimitCount count × IsLimitNumber skip
 limit-numbers x count skip y e h = All-head HasLimitNumbers (limited count skip y) (nodes y) (subst LimitsFit (e ∙ shapes.is_limited count skip y) h)
 
--- forms that are not planned yet
-pub built-sort : (x : Logical) (keys : List SortKey) (y : Logical) → x ≡ logical.Sort keys y → is_built x ≡ false
-built-sort x keys y e = ap is_built (e ∙ shapes.is_sorted keys y)
-
+-- the form that is not planned yet
 pub built-sampled : (x : Logical) (s : StageId) (y : Logical) → x ≡ logical.Sampled s y → is_built x ≡ false
 built-sampled x s y e = ap is_built (e ∙ shapes.is_sampled s y)
 
-pub ruleset not_built = (built-sort, built-sampled)
+pub ruleset not_built = (built-sampled)

@@ -13,7 +13,7 @@ use Rattle.aqe_physical.specs.declared.target.JoinWay.{JoinWay}
 use Rattle.aqe_physical.specs.declared.target.JoinWay.TheVariants as way
 use Rattle.aqe_physical.specs.declared.target.Target.{Target}
 use Rattle.aqe_physical.specs.declared.target.Target.TheVariants as target
-use Rattle.aqe_physical.specs.Shapes.{kept, mapped, moved, matched, grouped, finished, cut_locally, cut_globally, both_of}
+use Rattle.aqe_physical.specs.Shapes.{kept, mapped, moved, matched, grouped, finished, ordered, cut_locally, cut_globally, both_of}
 use Rattle.aqe_physical.specs.Nodes.{nodes}
 use Rattle.aqe_fitting.specs.Planning as table
 use Rattle.aqe_fitting.specs.Planning.{Planned, Brought, stays, goes}
@@ -64,6 +64,10 @@ module _ (ways : JoinKind → Logical → Logical → JoinWay → Type 0) (n : �
   reads_nothing x r w (table.a_union y z p q u t d e) h =
       All-cons IsNoRead (both_of p q) (nodes p ++ nodes q) tt
       (All-append IsNoRead (nodes p) (nodes q) (reads_nothing y p u d (left_built (is_built y) (is_built z) h)) (reads_nothing z q t e (right_built (is_built y) (is_built z) h)))
+  reads_nothing x q w (table.sort_here keys y p u d s) h = reads-more (ordered keys p) p tt (reads_nothing y p u d h)
+  reads_nothing x q w (table.sort_moved keys sample y p u d s e) h =
+      reads-more (ordered keys (moved (target.Range keys n sample) p)) (moved (target.Range keys n sample) p) tt
+      (reads-more (moved (target.Range keys n sample) p) p tt (reads_nothing y p u d h))
   reads_nothing x q w (table.limit_here count skip y p u d s) h = reads-more (cut_globally count skip p) p tt (reads_nothing y p u d h)
   reads_nothing x q w (table.limit_moved count skip first y p u d s e) h =
       reads-more (cut_globally (Some count) skip (moved target.Single (cut_locally first p))) (moved target.Single (cut_locally first p)) tt

@@ -5,7 +5,7 @@ use Rattle.aqe_logical.specs.Shapes.{filtered, projected, joined, aggregated, un
 use Rattle.aqe_logical.specs.Nodes.{nodes}
 use Rattle.aqe_logical.specs.WellFormed.{IsLimitNumber, IsLimitCount}
 
--- each form that is not planned yet stands here with false
+-- the forms of a query are planned; those that only planning again makes are not yet, and stand here with false
 abbrev pub is_built : Logical → Bool
 is_built OneRow = true
 is_built (Scan table schema) = true
@@ -14,7 +14,7 @@ is_built (projected items schema child) = is_built child
 is_built (joined kind condition left right) = is_built left && is_built right
 is_built (aggregated keys calls schema child) = is_built child
 is_built (united left right) = is_built left && is_built right
-is_built (sorted keys child) = false
+is_built (sorted keys child) = is_built child
 is_built (limited count skip child) = is_built child
 is_built (Empty schema) = false
 is_built (Held stage place schema) = false

@@ -1,13 +1,14 @@
--- Groups and limits over a plan and the place of its rows.
+-- Groups, sorts and limits over a plan and the place of its rows.
 use Rattle.std.specs.Prelude.{ℕ, ◌+◌, cond, Option, Some, None, List, length}
 use Rattle.aqe_expr.specs.declared.expr.Expr.{Expr}
 use Rattle.aqe_logical.specs.declared.plan.AggCall.{AggCall}
 use Rattle.aqe_logical.specs.declared.plan.Placement.{Placement}
 use Rattle.aqe_logical.specs.declared.plan.Placement.TheVariants as place
+use Rattle.aqe_logical.specs.declared.plan.SortKey.{SortKey}
 use Rattle.aqe_physical.specs.declared.target.Target.{Target}
 use Rattle.aqe_physical.specs.declared.target.Target.TheVariants as target
-use Rattle.aqe_physical.specs.declared.plan.Plan.{Plan, PartialAgg, FinalAgg, Exchange, LocalLimit, GlobalLimit}
-use Rattle.aqe_fitting.specs.Placing.{serves, one_part, groups_of, place_of_groups, groups_target, place_of}
+use Rattle.aqe_physical.specs.declared.plan.Plan.{Plan, PartialAgg, FinalAgg, Exchange, Sort, LocalLimit, GlobalLimit}
+use Rattle.aqe_fitting.specs.Placing.{serves, one_part, groups_of, order_of, place_of_groups, groups_target, place_of}
 
 -- finished where partial groups stand; or behind an exchange that brings them together
 abbrev pub groups_here : List Expr → List AggCall → Plan → Plan
@@ -25,6 +26,17 @@ groups_plan n keys calls p w = cond (serves (groups_of keys) p w) (groups_here k
 
 abbrev pub groups_place : ℕ → List Expr → Plan → Placement → Placement
 groups_place n keys p w = cond (serves (groups_of keys) p w) (place_of_groups keys p w) (place_of (groups_target n (length keys)))
+
+-- a sort of each part behind an exchange that brings rows to the ranges of their keys; no sample of them was taken
+abbrev pub sort_moved : ℕ → List SortKey → Plan → Plan
+sort_moved n keys p = Sort keys (Exchange (target.Range keys n None) p)
+
+-- a sort of each part where it stands, where the parts are then in order end to end
+abbrev pub sort_plan : ℕ → List SortKey → Plan → Placement → Plan
+sort_plan n keys p w = cond (serves (order_of keys) p w) (Sort keys p) (sort_moved n keys p)
+
+abbrev pub sort_place : List SortKey → Plan → Placement → Placement
+sort_place keys p w = cond (serves (order_of keys) p w) w (place.Range keys)
 
 -- what each part gives to a limit of all rows: as many of its first rows as are left out and kept, or all of them where all are kept
 abbrev pub given_rows : Option ℕ → ℕ → Plan → Plan

@@ -7,6 +7,7 @@ ghost use Rattle.aqe_planner.specs.Built.{IsBuilt, LimitsFit, Reaches};
 
 use crate::groups::grouped;
 use crate::limits::limited;
+use crate::sorts::sorted;
 use crate::unions::united;
 use aqe_base::Memory;
 use aqe_boxes::{all_three, both};
@@ -84,8 +85,11 @@ fn planned(
             let from = planned(alloc, child.get(), estimates, settings)?;
             limited(alloc, *count, *skip, from)
         }
-        Logical::Sort { .. }
-        | Logical::Empty { .. }
+        Logical::Sort { keys, child } => {
+            let from = planned(alloc, child.get(), estimates, settings)?;
+            sorted(alloc, keys, settings.exchange_partitions(), from)
+        }
+        Logical::Empty { .. }
         | Logical::Held { .. }
         | Logical::HeldPartial { .. }
         | Logical::Sampled { .. } => unreachable!(),

@@ -4,6 +4,7 @@
 mod first;
 mod groups;
 mod limits;
+mod sorts;
 mod unions;
 
 pub use first::first_plan;

@@ -173,6 +173,13 @@ module _ (most : ℕ) (some : 1 ≤ most) where
         let second = right.0 in
         let here = over a b (part_count p + part_count r) (omega (arith, first, second)) in
         (here, (fits (united a b) (part_count p + part_count r) c here, left.1, right.1))
+    counted x q w (table.sort_here keys y p u d s) h c = let below = counted y p u d h c in (below.0, (fits y (part_count p) c below.0, below.1))
+    counted x q w (table.sort_moved keys sample y p u d s e) h c =
+        let below = counted y p u d h c in
+        let most_below = most_in y in
+        let all : n ≤ room y = omega (arith, few, most_below) in
+        let here = fits y n c all in
+        (all, (here, (here, below.1)))
     counted x q w (table.limit_here count skip y p u d s) h c = let below = counted y p u d h c in (below.0, (fits y (part_count p) c below.0, below.1))
     counted x q w (table.limit_moved count skip first y p u d s e) h c =
         let below = counted y p u d h c in

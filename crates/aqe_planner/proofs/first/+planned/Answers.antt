@@ -8,10 +8,11 @@ use Rattle.aqe_fitting.specs.Known.{files_of}
 use Rattle.aqe_fitting.specs.Ways.{ways_by_sizes}
 use Rattle.aqe_placing.specs.declared.standing.Standing.{Standing}
 use Rattle.aqe_join_plan.specs.Steps.{chosen, join_plan, join_place}
-use Rattle.aqe_planner.specs.Steps.{groups_plan, groups_place}
+use Rattle.aqe_planner.specs.Steps.{groups_plan, groups_place, sort_plan}
 use Rattle.aqe_planner.proofs.Rows.{at-row, at-scan, at-filter, at-project, at-groups, IfOk-both, count-scan}
 use Rattle.aqe_planner.proofs.LimitRows.{at-union, at-limit}
-use Rattle.aqe_planner.proofs.Below.{Required, below-filter, below-project, below-groups, below-limit, below-join, below-union, reach-scan, limit-numbers, not_built}
+use Rattle.aqe_planner.proofs.SortRows.{at-sort}
+use Rattle.aqe_planner.proofs.Below.{Required, below-filter, below-project, below-groups, below-sort, below-limit, below-join, below-union, reach-scan, limit-numbers, not_built}
 use Rattle.aqe_planner.proofs.JoinRows.{at-join, of_ok}
 use Rattle.aqe_planner.proofs.first.+planned.Goals as goal
 
@@ -69,6 +70,13 @@ planned-requires-in-Union-2 t c = (
       (below-union (length c.args.estimates.now) c.args.logical.now c.in-Union.left c.in-Union.right c.in-Union.is (c.requires.built, (c.requires.estimates, c.requires.limits))).1,
 )
 
+pub planned-requires-in-Sort : goal.planned-requires-in-Sort
+planned-requires-in-Sort t c = (
+  search (rules, the_lemmas),
+  below-sort (length c.args.estimates.now) c.args.logical.now c.in-Sort.keys c.in-Sort.child c.get-in-Sort.result.now c.in-Sort.is c.get-in-Sort.ensures
+      (c.requires.built, (c.requires.estimates, c.requires.limits)),
+)
+
 pub planned-requires-in-Limit : goal.planned-requires-in-Limit
 planned-requires-in-Limit t c = (
   search (rules, the_lemmas),
@@ -83,7 +91,7 @@ pub limited-requires-clause-skip : goal.limited-requires-clause-skip
 limited-requires-clause-skip t c = (limit-numbers c.args.logical.now c.in-Limit.count c.in-Limit.skip c.in-Limit.child c.in-Limit.is c.requires.limits).1
 
 pub unreachable-requires : goal.unreachable-requires
-unreachable-requires t c = grind (arith, not_built, c.in-Sort.is, c.requires.built)
+unreachable-requires t c = grind (arith, not_built, c.in-Empty.is, c.requires.built)
 
 pub returns-in-OneRow : goal.returns-in-OneRow
 returns-in-OneRow t c =
@@ -143,6 +151,17 @@ returns-in_ok-left-in-Union t c =
     c.in-Union.left c.in-Union.right c.in_ok-left-in-Union.left.plan c.in_ok-left-in-Union.right.plan s.plan c.in_ok-left-in-Union.left.place c.in_ok-left-in-Union.right.place s.place
     c.in-Union.is (search rules) (search rules) h k)
     c.united.ensures.plan c.united.ensures.place
+
+pub returns-in_ok-from-in-Sort : goal.returns-in_ok-from-in-Sort
+returns-in_ok-from-in-Sort t c =
+    let below = below-sort (length c.args.estimates.now) c.args.logical.now c.in-Sort.keys c.in-Sort.child c.get-in-Sort.result.now c.in-Sort.is c.get-in-Sort.ensures
+    (c.requires.built, (c.requires.estimates, c.requires.limits)) in
+    IfOk-both c.sorted.result _ _ _ (λ (s : Standing) h k.
+    at-sort (ways_by_sizes c.args.estimates.now [] (in_force (values_of c.args.settings.now))) (partitions (values_of c.args.settings.now)) (files_of c.args.estimates.now) c.args.logical.now
+    c.get-in-Sort.result.now c.in-Sort.keys c.in_ok-from-in-Sort.from.plan s.plan c.in_ok-from-in-Sort.from.place s.place
+    (search rules) below.0 c.in_ok-from-in-Sort.ensures
+    (h ∙ ap (λ (n : ℕ). sort_plan n c.in-Sort.keys c.in_ok-from-in-Sort.from.plan c.in_ok-from-in-Sort.from.place) c.exchange_partitions-in-Sort.ensures.number) k)
+    c.sorted.ensures.plan c.sorted.ensures.place
 
 pub returns-in_ok-from-in-Limit : goal.returns-in_ok-from-in-Limit
 returns-in_ok-from-in-Limit t c =
