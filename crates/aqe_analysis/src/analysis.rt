@@ -1,7 +1,6 @@
 //! The plan of a query.
 
-ghost use Rattle.std.specs.Prelude.{◌≡◌, [], IsTrue, map};
-ghost use Rattle.aqe_built.specs.Built as built;
+ghost use Rattle.std.specs.Prelude.{◌≡◌, [], map};
 ghost use Rattle.aqe_rules.specs.Analysis.{rules, walk};
 ghost use Rattle.aqe_rules.specs.Faults.{Says};
 ghost use Rattle.aqe_rules.specs.QueryTrees.{made_of_union, made_of_core, made_of_select, made_of_joined, made_of_source};
@@ -23,22 +22,14 @@ use std::alloc::Global;
 
 /// The analysed plan of a query over the tables of the catalog, or the first check that fails.
 ///
-/// Checks come in the order of the walk: FROM from left to right, each subquery whole; WHERE; the select list. At one node
-/// the operators of its plan are counted before its columns. The query has no form that is not carried out so far.
+/// Checks come in the order of the walk: FROM from left to right, each subquery whole; WHERE; GROUP BY; the select list; HAVING;
+/// the further cores of a union; ORDER BY. At one node the operators of its plan are counted before its columns.
+#[cycle(query)]
 pub fn analyse(
     alloc: Global,
     query: &QueryTree,
     catalog: &Catalog,
 ) -> Result<Logical, AnalysisFault>
-    requires { IsTrue (built.is_query_built query.now) }
-    ensures { Says result (walk query.now (seen catalog.now)) }
-{
-    whole(alloc, query, catalog)
-}
-
-/// The plan of a query, also of one in FROM.
-#[cycle(query)]
-fn whole(alloc: Global, query: &QueryTree, catalog: &Catalog) -> Result<Logical, AnalysisFault>
     ensures { Says result (walk query.now (seen catalog.now)) }
 {
     let (body, order, limit, offset) = query_parts(query);
@@ -75,7 +66,7 @@ fn core(
     ensures { Says result (made_of_core rules tree.now (seen catalog.now) order.now) }
 {
     match tree {
-        CoreTree::Paren(inner) => in_order(alloc, order, whole(alloc, inner.get(), catalog)),
+        CoreTree::Paren(inner) => in_order(alloc, order, analyse(alloc, inner.get(), catalog)),
         CoreTree::Select(parts) => selected(alloc, parts, order, catalog),
     }
 }
@@ -140,7 +131,7 @@ fn source(alloc: Global, tree: &SourceTree, catalog: &Catalog) -> Result<FromPla
     match tree {
         SourceTree::Table { name, alias } => table_source(alloc, name, alias, catalog),
         SourceTree::Paren { query, alias } => {
-            query_source(alloc, alias, whole(alloc, query.get(), catalog))
+            query_source(alloc, alias, analyse(alloc, query.get(), catalog))
         }
     }
 }

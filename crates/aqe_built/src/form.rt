@@ -9,7 +9,6 @@ pub enum Form {
     Set,
     /// OPTIONS of a table.
     Options,
-    OrderBy,
 }
 
 impl Form {
@@ -20,7 +19,6 @@ impl Form {
         match self {
             Form::Set => "SET",
             Form::Options => "OPTIONS",
-            Form::OrderBy => "ORDER BY",
         }
     }
 }

@@ -1,8 +1,8 @@
 //! The law, as the contract of a function that does nothing.
 
-ghost use Rattle.aqe_planned.specs.Laws.{BuiltQueriesArePlanned};
+ghost use Rattle.aqe_planned.specs.Laws.{QueriesArePlanned};
 
-/// The plan of a query that is carried out so far has only the forms that are planned so far.
-pub fn built_queries_are_planned()
-    ensures { BuiltQueriesArePlanned }
+/// The plan of each query that is analysed has only the forms that are planned.
+pub fn queries_are_planned()
+    ensures { QueriesArePlanned }
 {}

@@ -1,6 +1,6 @@
-//! The law of planning: what is carried out so far can be planned.
+//! The law of planning: each query that is analysed can be planned.
 #![tactic(auto)]
 
 mod laws;
 
-pub use laws::built_queries_are_planned;
+pub use laws::queries_are_planned;

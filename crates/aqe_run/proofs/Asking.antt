@@ -101,7 +101,7 @@ module _ (catalog : List CatalogTable) (slots : Slots) (shaped : AreShaped catal
     wide_each left (both_left (is_built left) (is_built right) b) (all_left (HasItsColumns (seen catalog)) (scanned_tables left) (scanned_tables right) h),
     wide_each right (both_right (is_built left) (is_built right) b) (all_right (HasItsColumns (seen catalog)) (scanned_tables left) (scanned_tables right) h),
   )
-  wide_each (sorted keys child) b h = absurd (clash b)
+  wide_each (sorted keys child) b h = (tt, wide_each child b h)
   wide_each (limited count skip child) b h = (tt, wide_each child b h)
   wide_each (Empty schema) b h = absurd (clash b)
   wide_each (Held stage place schema) b h = absurd (clash b)

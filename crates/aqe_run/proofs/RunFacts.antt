@@ -1,5 +1,5 @@
 -- The steps of a run put together, over the files that its store tells.
-use Rattle.std.proofs.Common.{◌≡◌, ◌⊎◌, inl, inr, ℕ, ◌+◌, ◌≤◌, ◌<◌, List, [], ◌∷◌, ◌++◌, length, length-append, IsTrue, Option, Some, None, Result, Ok, Err, refl, sym, ap, subst, arith, ◌∙◌}
+use Rattle.std.proofs.Common.{◌≡◌, ◌⊎◌, inl, inr, ℕ, ◌+◌, ◌≤◌, ◌<◌, List, [], ◌∷◌, ◌++◌, length, length-append, Option, Some, None, Result, Ok, Err, refl, sym, ap, subst, arith, ◌∙◌}
 use Rattle.std.specs.Prelude.{All, IfOk, IfErr, IfSome, OnOk, flat_map}
 use Rattle.std.proofs.lemmas.List.{append-nil, append_assoc}
 use Rattle.std.proofs.lemmas.Grind.{flat_map-append}
@@ -21,7 +21,6 @@ use Rattle.aqe_trees.specs.declared.statement.TableForm.{TableForm}
 use Rattle.aqe_tables.specs.declared.catalog.CatalogTable.{CatalogTable}
 use Rattle.aqe_rules.specs.Analysis.{Analysed}
 use Rattle.aqe_laws.proofs.QueryTrees.{well_formed}
-use Rattle.aqe_built.specs.Built.{is_query_built}
 use Rattle.aqe_sources.specs.Catalogs.{seen}
 use Rattle.aqe_logical.specs.Nodes.{scans}
 use Rattle.aqe_logical.specs.WellFormed.{WellFormed}
@@ -91,8 +90,8 @@ path_open None path most h = tt
 path_open (Some file) path most h = h.0
 
 -- what the analysis says of a plan
-pub plan_built : (tree : QueryTree) (catalog : List CatalogTable) (plan : Logical) → IsTrue (is_query_built tree) → Analysed tree (seen catalog) plan → IsBuilt plan
-plan_built tree catalog plan b h = planned tree (seen catalog) plan b h
+pub plan_built : (tree : QueryTree) (catalog : List CatalogTable) (plan : Logical) → Analysed tree (seen catalog) plan → IsBuilt plan
+plan_built tree catalog plan h = planned tree (seen catalog) plan h
 
 pub plan_formed : (tree : QueryTree) (catalog : List CatalogTable) (plan : Logical) → Analysed tree (seen catalog) plan → WellFormed plan
 plan_formed tree catalog plan h = well_formed tree (seen catalog) plan h

@@ -4,7 +4,7 @@ ghost use Rattle.std.specs.Prelude.{◌≡◌, ◌≢◌, All, ◌<◌, ◌≤�
 ghost use Rattle.aqe_base.specs.declared.status.Status.TheVariants as status;
 ghost use Rattle.aqe_trees.specs.declared.statement.Stmt.TheVariants as stmt;
 ghost use Rattle.aqe_store.specs.Told.{WhereTold};
-ghost use Rattle.aqe_built.specs.Built.{is_query_built, is_statement_built};
+ghost use Rattle.aqe_built.specs.Built.{is_statement_built};
 ghost use Rattle.aqe_rules.specs.Analysis.{Analysed};
 ghost use Rattle.aqe_logical.specs.Nodes.{scans as scans_of};
 ghost use Rattle.aqe_logical.specs.WellFormed.{WellFormed};
@@ -100,7 +100,6 @@ fn plan_of(
     made: &Made,
     place: &mut FaultPlace,
 ) -> Result<Logical, Status>
-    requires { IsTrue (is_query_built tree.now) }
     ensures plan { IfOk result (λ plan. Analysed tree.now (seen made.now.catalog) plan) }
     ensures refused { IfErr result (λ end. IsNotAnalysed (state_of made.now) tree.now end ⊎ (end ≡ status.Memory)) }
     ensures named { IfErr result (λ end. IsTrue (is_step_end end)) }
@@ -224,7 +223,6 @@ fn answered<S: Store, R: Runner>(
     runner: &mut R,
     place: &mut FaultPlace,
 ) -> Result<Bytes, Status>
-    requires built { IsTrue (is_query_built tree.now) }
     requires range { InRange (values_of made.old.settings) }
     requires few { made.old.answered < 2 ^ 32 - 1 }
     requires counted { made.old.answered ≡ length journal.old }
@@ -261,7 +259,6 @@ fn query<S: Store, O: Sink, R: Runner>(
     runner: &mut R,
     place: &mut FaultPlace,
 ) -> Result<(), Status>
-    requires built { IsTrue (is_query_built tree.now) }
     requires range { InRange (values_of made.old.settings) }
     requires few { made.old.answered < 2 ^ 32 - 1 }
     requires counted { made.old.answered ≡ length journal.old }

@@ -12,8 +12,8 @@ use Rattle.aqe_analysis.proofs.QuerySteps.{query-walk, union-walk, select-walk, 
 use Rattle.aqe_analysis.proofs.Turns.{begun, turned, ended}
 use Rattle.aqe_analysis.proofs.analysis.+query.Goals as goal
 
-pub whole-returns : goal.whole-returns
-whole-returns t c =
+pub analyse-returns : goal.analyse-returns
+analyse-returns t c =
     let tables = seen c.args.catalog.now in
     let p = c.query_parts-limit.result in
     subst (λ (o : Outcome Logical). Says c.within_cut.result o) (sym (query-walk c.args.query.now p.0.now p.1.now p.2 p.3 tables c.query_parts-limit.ensures))

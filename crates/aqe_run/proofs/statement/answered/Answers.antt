@@ -8,7 +8,7 @@ use Rattle.aqe_run.proofs.statement.answered.Goals as goal
 
 pub evaluated-requires : goal.evaluated-requires
 evaluated-requires g c = record {
-  form = plan_built c.args.tree.now c.args.made.now.catalog c.in-Ok.plan c.requires.built c.in-Ok.ensures.plan;
+  form = plan_built c.args.tree.now c.args.made.now.catalog c.in-Ok.plan c.in-Ok.ensures.plan;
   formed = plan_formed c.args.tree.now c.args.made.now.catalog c.in-Ok.plan c.in-Ok.ensures.plan;
   columns = plan_columns c.args.tree.now c.args.made.now.catalog c.in-Ok.plan c.in-Ok.ensures.plan;
   range = c.requires.range;

@@ -1,5 +1,5 @@
 use Rattle.aqe_planned.proofs.Planned.{planned}
-use Rattle.aqe_planned.proofs.laws.built_queries_are_planned.Goals as goal
+use Rattle.aqe_planned.proofs.laws.queries_are_planned.Goals as goal
 
 pub returns : goal.returns
 returns c = planned

@@ -1,2 +1,0 @@
-pub mod BuiltParts
-pub mod FirstForms
