@@ -33,35 +33,35 @@ use Rattle.aqe_stages.specs.Parts.{parts, all, cells}
 use Rattle.aqe_stages.specs.Reads.{needs, task_needs}
 use Rattle.aqe_stages.specs.Runnable.{reducers_of}
 use Rattle.aqe_stages.proofs.Counted.{counted}
-use Rattle.aqe_task.specs.Built.{IsBuiltBody, IsBuiltKind}
+use Rattle.aqe_task.specs.Built.{IsBuiltBody}
 use Rattle.aqe_task.specs.Tasks.{IsMet, IsServedTask, GivesTask, task_cells}
 use Rattle.aqe_expr.specs.declared.expr.Expr.{Expr}
 use Rattle.aqe_checks.proofs.BodySteps.{narrow_keys, scan_ready}
-use Rattle.aqe_checks.specs.Serving.{HasTable, IsReady, IsEasy, Holds, Ready, IsKeptBelow}
+use Rattle.aqe_checks.specs.Serving.{HasTable, IsReady, IsUnsampled, IsEasy, Holds, Ready, IsKeptBelow}
 
 -- what holds of all rows holds of those that an exchange sends, and of those that a stage keeps
 exchanged_all : (P : Row → Type 0) (f : Row → ℕ) (rows : List Row) → All P rows → (rs : List ℕ) → All P (joined_parts (map (part_of f rows) rs))
 exchanged_all P f rows h [] = All-nil P
 exchanged_all P f rows h (r ∷ rs) = All-append P (part_of f rows r) (joined_parts (map (part_of f rows) rs)) (All-filter (λ row. f row == r) P rows h) (exchanged_all P f rows h rs)
 
-cells_all : (P : Row → Type 0) (given : Given) (k : StageKind) (ps : List (List Row)) (part : List Row) → IsBuiltKind k → All P part → All P (joined_parts (cells_of given k ps part))
-cells_all P given (kind.Shuffle target) ps part built h = exchanged_all P (place given target ps) part h (range_with_len 0 (target_count target))
-cells_all P given kind.Broadcast ps part built h = subst (All P) (sym (append-nil part)) h
-cells_all P given (kind.Sample keys) ps part built h = cc built
-cells_all P given kind.Result ps part built h = subst (All P) (sym (append-nil part)) h
+cells_all : (P : Row → Type 0) (given : Given) (k : StageKind) (ps : List (List Row)) (part : List Row) → IsUnsampled k → All P part → All P (joined_parts (cells_of given k ps part))
+cells_all P given (kind.Shuffle target) ps part plain h = exchanged_all P (place given target ps) part h (range_with_len 0 (target_count target))
+cells_all P given kind.Broadcast ps part plain h = subst (All P) (sym (append-nil part)) h
+cells_all P given (kind.Sample keys) ps part plain h = absurd plain
+cells_all P given kind.Result ps part plain h = subst (All P) (sym (append-nil part)) h
 
-kept_all : (P : Row → Type 0) (given : Given) (k : StageKind) (ps qs : List (List Row)) → IsBuiltKind k → All P (joined_parts qs) → All P (all_rows (map (cells_of given k ps) qs))
-kept_all P given k ps [] built h = All-nil P
-kept_all P given k ps (q ∷ qs) built h =
-    All-append P (joined_parts (cells_of given k ps q)) (all_rows (map (cells_of given k ps) qs)) (cells_all P given k ps q built (all_left P q (joined_parts qs) h))
-    (kept_all P given k ps qs built (all_right P q (joined_parts qs) h))
+kept_all : (P : Row → Type 0) (given : Given) (k : StageKind) (ps qs : List (List Row)) → IsUnsampled k → All P (joined_parts qs) → All P (all_rows (map (cells_of given k ps) qs))
+kept_all P given k ps [] plain h = All-nil P
+kept_all P given k ps (q ∷ qs) plain h =
+    All-append P (joined_parts (cells_of given k ps q)) (all_rows (map (cells_of given k ps) qs)) (cells_all P given k ps q plain (all_left P q (joined_parts qs) h))
+    (kept_all P given k ps qs plain (all_right P q (joined_parts qs) h))
 
 -- a stage has as many cells of each part as its kind has reducers
-cells_count : (given : Given) (k : StageKind) (ps : List (List Row)) (part : List Row) → IsBuiltKind k → length (cells_of given k ps part) ≡ reducers_of k
-cells_count given (kind.Shuffle target) ps part built = length-map-range_with_len (part_of (place given target ps) part) 0 (target_count target)
-cells_count given kind.Broadcast ps part built = refl
-cells_count given (kind.Sample keys) ps part built = refl
-cells_count given kind.Result ps part built = refl
+cells_count : (given : Given) (k : StageKind) (ps : List (List Row)) (part : List Row) → length (cells_of given k ps part) ≡ reducers_of k
+cells_count given (kind.Shuffle target) ps part = length-map-range_with_len (part_of (place given target ps) part) 0 (target_count target)
+cells_count given kind.Broadcast ps part = refl
+cells_count given (kind.Sample keys) ps part = refl
+cells_count given kind.Result ps part = refl
 
 abbrev one : StageKind → Plan → Stages
 one k body = record { kind = k; body = body } ∷ []
@@ -80,21 +80,21 @@ none_kept tables k body held e = record {
 }
 
 -- what a task makes can be kept beside the others
-pub made_fits : (tables : Tables) (k : StageKind) (body : Plan) (held : AllKept) (m : ℕ) (made : List CellData) → IsBuiltKind k → IsKeptBelow tables k body held m
+pub made_fits : (tables : Tables) (k : StageKind) (body : Plan) (held : AllKept) (m : ℕ) (made : List CellData) → IsKeptBelow tables k body held m
     → made ≡ task_cells tables [] k body m → HaveCells (length made) (kept_of held 0)
-made_fits tables k body held m made built h e =
-    let same : length made ≡ reducers_of k = ap (λ (cs : List CellData). length cs) e ∙ cells_count [] k (parts tables [] body) (slice_index_or (parts tables [] body) m []) built in
+made_fits tables k body held m made h e =
+    let same : length made ≡ reducers_of k = ap (λ (cs : List CellData). length cs) e ∙ cells_count [] k (parts tables [] body) (slice_index_or (parts tables [] body) m []) in
     subst (λ (n : ℕ). HaveCells n (kept_of held 0)) (sym same) h.alike
 
-pub one_more : (tables : Tables) (k : StageKind) (body : Plan) (old new : AllKept) (m : ℕ) (made : List CellData) → IsBuiltKind k → IsKeptBelow tables k body old m
+pub one_more : (tables : Tables) (k : StageKind) (body : Plan) (old new : AllKept) (m : ℕ) (made : List CellData) → IsKeptBelow tables k body old m
     → made ≡ task_cells tables [] k body m → Changes old new 0 m (Some made) → Becomes old new 0 (with_output (kept_of old 0) m made) → IsKeptBelow tables k body new (m + 1)
-one_more tables k body old new m made built h e changes becomes = record {
+one_more tables k body old new m made h e changes becomes = record {
   each = each;
   alike = subst (HaveCells (reducers_of k)) (sym (becomes 0)) (All-values-insert_entry nat_cmp m made (λ cs. length cs ≡ reducers_of k) (kept_of old 0) h.alike same);
 }
   where
     same : length made ≡ reducers_of k
-    same = ap (λ (cs : List CellData). length cs) e ∙ cells_count [] k (parts tables [] body) (slice_index_or (parts tables [] body) m []) built
+    same = ap (λ (cs : List CellData). length cs) e ∙ cells_count [] k (parts tables [] body) (slice_index_or (parts tables [] body) m [])
 
     by_test : (j : ℕ) → j < m + 1 → ((m == j) ≡ true) × (m ≡ j) ⊎ ((m == j) ≡ false) × (m ≢ j) → output_at new 0 j ≡ Some (task_cells tables [] k body j)
     by_test j lt (inl (t, p)) =
@@ -106,30 +106,30 @@ one_more tables k body old new m made built h e changes becomes = record {
     each j lt = by_test j lt (eqb_tells m j)
 
 -- where the outputs of all maps are kept, they are what the stage holds
-pub stage_holds : (tables : Tables) (bare : AllKept) (k : StageKind) (body : Plan) (held : AllKept) (maps reducers width : ℕ) → IsBuiltKind k → Ready tables bare 0 body maps width
+pub stage_holds : (tables : Tables) (bare : AllKept) (k : StageKind) (body : Plan) (held : AllKept) (maps reducers width : ℕ) → IsUnsampled k → Ready tables bare 0 body maps width
     → IsKeptBelow tables k body held maps → reducers ≡ reducers_of k → 0 < maps → Holds tables held maps reducers width
-stage_holds tables bare k body held maps reducers width built r h e some = record {
+stage_holds tables bare k body held maps reducers width plain r h e some = record {
   stages = one k body;
   are = record {
     bare = λ no. absurd (let wrong : ⊥ = omega (arith, no, some) in wrong);
     first = λ lt. (r.is.count, e);
     each = λ m lt. h.each m lt ∙ ap (λ (cs : List CellData). Some cs) (sym (held_cells tables k body m (subst (λ (n : ℕ). m < n) r.is.count lt)));
-    wide = kept_all (λ (row : Row). length row ≡ width) [] k (parts tables [] body) (parts tables [] body) built
+    wide = kept_all (λ (row : Row). length row ≡ width) [] k (parts tables [] body) (parts tables [] body) plain
         (subst (λ (s : Stages). HaveWidth width (all tables s body)) (r.is.bare refl) r.is.wide);
     few = r.is.few;
   };
 }
 
 -- the task of a ready body is served, where the kind is easy
-task_met : (tables : Tables) (stages : Stages) (held : AllKept) (k : StageKind) (body : Plan) (n : ℕ) → IsBuiltKind k → All (IsMet tables stages held) (needs body n)
+task_met : (tables : Tables) (stages : Stages) (held : AllKept) (k : StageKind) (body : Plan) (n : ℕ) → IsUnsampled k → All (IsMet tables stages held) (needs body n)
     → All (IsMet tables stages held) (task_needs k body n)
-task_met tables stages held (kind.Shuffle (Hash keys count)) body n built h = h
-task_met tables stages held (kind.Shuffle (Range keys count sample)) body n built h = cc built
-task_met tables stages held (kind.Shuffle Single) body n built h = h
-task_met tables stages held (kind.Shuffle Broadcast) body n built h = h
-task_met tables stages held kind.Broadcast body n built h = h
-task_met tables stages held (kind.Sample keys) body n built h = cc built
-task_met tables stages held kind.Result body n built h = h
+task_met tables stages held (kind.Shuffle (Hash keys count)) body n plain h = h
+task_met tables stages held (kind.Shuffle (Range keys count sample)) body n plain h = absurd plain
+task_met tables stages held (kind.Shuffle Single) body n plain h = h
+task_met tables stages held (kind.Shuffle Broadcast) body n plain h = h
+task_met tables stages held kind.Broadcast body n plain h = h
+task_met tables stages held (kind.Sample keys) body n plain h = absurd plain
+task_met tables stages held kind.Result body n plain h = h
 
 served_over : (tables : Tables) (stages : Stages) (held : AllKept) (maps : ℕ) (k : StageKind) (body : Plan) (count width n : ℕ) → IsReady tables stages held maps body count width → IsEasy k → n < count
     → IsServedTask tables stages held k body n
@@ -137,7 +137,7 @@ served_over tables stages held maps k body count width n r easy lt = record {
   runs = r.runs;
   keeps = easy.keeps stages (all tables stages body);
   within = subst (λ (c : ℕ). n < c) r.count lt;
-  reads = task_met tables stages held k body n easy.built (r.reads n);
+  reads = task_met tables stages held k body n easy.unsampled (r.reads n);
 }
 
 pub task_served : (tables : Tables) (held : AllKept) (maps : ℕ) (k : StageKind) (body : Plan) (count width n : ℕ) → Ready tables held maps body count width → IsEasy k → n < count
@@ -154,19 +154,16 @@ bare_served tables held k body count width n r easy lt =
 pub given_fits : (tables : Tables) (bare held : AllKept) (k : StageKind) (body : Plan) (count width m : ℕ) (made : List CellData) → Ready tables bare 0 body count width → IsEasy k → m < count
     → GivesTask tables bare k body m made → IsKeptBelow tables k body held m → HaveCells (length made) (kept_of held 0)
 given_fits tables bare held k body count width m made r easy lt gives h =
-    made_fits tables k body held m made easy.built h (gives [] (bare_served tables bare k body count width m r easy lt))
+    made_fits tables k body held m made h (gives [] (bare_served tables bare k body count width m r easy lt))
 
 pub given_more : (tables : Tables) (bare old new : AllKept) (k : StageKind) (body : Plan) (count width m : ℕ) (made : List CellData) → Ready tables bare 0 body count width → IsEasy k → m < count
     → GivesTask tables bare k body m made → IsKeptBelow tables k body old m → Changes old new 0 m (Some made) → Becomes old new 0 (with_output (kept_of old 0) m made)
     → IsKeptBelow tables k body new (m + 1)
 given_more tables bare old new k body count width m made r easy lt gives h changes becomes =
-    one_more tables k body old new m made easy.built h (gives [] (bare_served tables bare k body count width m r easy lt)) changes becomes
+    one_more tables k body old new m made h (gives [] (bare_served tables bare k body count width m r easy lt)) changes becomes
 
 pub ready_built : (tables : Tables) (held : AllKept) (maps : ℕ) (body : Plan) (count width : ℕ) → Ready tables held maps body count width → IsBuiltBody body
 ready_built tables held maps body count width r = r.is.built
-
-pub built_kind : (k : StageKind) → IsEasy k → IsBuiltKind k
-built_kind k easy = easy.built
 
 -- no stage is there before one is made
 pub nothing_held : (tables : Tables) (held : AllKept) → Holds tables held 0 0 0
@@ -183,21 +180,21 @@ nothing_held tables held = record {
 
 -- kinds that keep any rows
 pub single_easy : IsEasy (kind.Shuffle Single)
-single_easy = record { built = refl; keeps = λ stages rows. tt }
+single_easy = record { unsampled = tt; keeps = λ stages rows. tt }
 
 pub to_all_easy : IsEasy (kind.Shuffle Broadcast)
-to_all_easy = record { built = refl; keeps = λ stages rows. tt }
+to_all_easy = record { unsampled = tt; keeps = λ stages rows. tt }
 
 pub broadcast_easy : IsEasy kind.Broadcast
-broadcast_easy = record { built = refl; keeps = λ stages rows. tt }
+broadcast_easy = record { unsampled = tt; keeps = λ stages rows. tt }
 
 pub result_easy : IsEasy kind.Result
-result_easy = record { built = refl; keeps = λ stages rows. tt }
+result_easy = record { unsampled = tt; keeps = λ stages rows. tt }
 
 pub ruleset easy_kinds = (single_easy, to_all_easy, broadcast_easy, result_easy)
 
 pub hash_easy : (keys : List Expr) (n : ℕ) → length keys ≤ 100 → 0 < n → IsEasy (kind.Shuffle (Hash keys n))
-hash_easy keys n few some = record { built = refl; keeps = λ stages rows. (some, narrow_keys keys rows (omega (arith, few))) }
+hash_easy keys n few some = record { unsampled = tt; keeps = λ stages rows. (some, narrow_keys keys rows (omega (arith, few))) }
 
 -- a table that was loaded as it was created
 rows_wide : (n : ℕ) → n ≡ 2 → (files : List (List Row)) → All (HaveWidth n) files → HaveWidth 2 (joined_parts files)

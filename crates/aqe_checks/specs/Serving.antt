@@ -5,7 +5,9 @@ use Rattle.aqe_tables.specs.Loaded.{Slots, IsLoaded}
 use Rattle.aqe_estimates.specs.LoadedTables.{tables_of}
 use Rattle.aqe_logical.specs.Answers.{Row, Tables, table_rows}
 use Rattle.aqe_logical.specs.WellFormed.{HaveWidth}
+use Rattle.aqe_physical.specs.declared.target.Target.TheVariants as target
 use Rattle.aqe_physical.specs.declared.target.StageKind.{StageKind}
+use Rattle.aqe_physical.specs.declared.target.StageKind.TheVariants as kind
 use Rattle.aqe_physical.specs.declared.plan.Plan.{Plan}
 use Rattle.aqe_physical.specs.Counts.{part_count}
 use Rattle.aqe_stages.specs.Stages.{Stage, Stages}
@@ -13,7 +15,7 @@ use Rattle.aqe_stages.specs.Cells.{all_rows}
 use Rattle.aqe_stages.specs.Parts.{all, cells}
 use Rattle.aqe_stages.specs.Reads.{needs}
 use Rattle.aqe_stages.specs.Runnable.{OfStage, Runnable, CanKeep, reducers_of}
-use Rattle.aqe_task.specs.Built.{IsBuiltBody, IsBuiltKind}
+use Rattle.aqe_task.specs.Built.{IsBuiltBody}
 use Rattle.aqe_task.specs.Tasks.{IsKept, IsMet, task_cells}
 
 -- table 0 is loaded, and its rows have two values
@@ -64,10 +66,16 @@ pub record IsReadyAnywhere (body : Plan) (parts width : ℕ) : Type 0 where
 pub record Follows (before : Plan) (parts width : ℕ) (after : Plan) (more wide : ℕ) : Type 0 where
   pub follow : (tables : Tables) (held : AllKept) (maps : ℕ) → Ready tables held maps before parts width → Ready tables held maps after more wide
 
--- a kind of stage is carried out, and can keep any rows
-pub record IsEasy (kind : StageKind) : Type 0 where
-  pub built : IsBuiltKind kind
-  pub keeps : (stages : Stages) (rows : List Row) → CanKeep stages kind rows
+-- a kind of stage neither keeps samples nor names a stage of them
+abbrev pub IsUnsampled : StageKind → Type 0
+IsUnsampled (kind.Shuffle (target.Range keys n sample)) = ⊥
+IsUnsampled (kind.Sample keys) = ⊥
+IsUnsampled other = Unit {0}
+
+-- a kind of stage keeps rows without samples, and can keep any
+pub record IsEasy (keeper : StageKind) : Type 0 where
+  pub unsampled : IsUnsampled keeper
+  pub keeps : (stages : Stages) (rows : List Row) → CanKeep stages keeper rows
 
 -- of the maps below a number of stage 0, of this kind and body, the cells are kept
 pub record IsKeptBelow (tables : Tables) (kind : StageKind) (body : Plan) (held : AllKept) (n : ℕ) : Type 0 where

@@ -1,11 +1,10 @@
-//! Plans that no script comes to so far, and copies of plans and expressions.
+//! Plans that are made by hand, and copies of plans and expressions.
 
 ghost use Rattle.std.specs.Prelude.{◌≤◌, length};
 
 use aqe_analysis::analyse;
 use aqe_base::{JoinKind, Memory, StageId};
 use aqe_boxes::both;
-use aqe_built::is_query_built;
 use aqe_expr::{Expr, eval};
 use aqe_lexer::tokens;
 use aqe_logical::{
@@ -175,9 +174,6 @@ fn planned(alloc: Global, script: &Script) -> Result<Logical, Fail> {
     let [Stmt::Query(query)] = script.slice() else {
         return Err(Fail::new("no query"));
     };
-    if !is_query_built(query) {
-        return Err(Fail::new("not carried out so far"));
-    }
     match analyse(alloc, query, &Catalog::new(alloc)) {
         Ok(plan) => Ok(plan),
         Err(_) => Err(Fail::new("refused")),

@@ -1,4 +1,4 @@
-//! Plans of SELECTs without FROM that are grouped or have an order, which the program does not carry out so far.
+//! Plans of SELECTs without FROM that are grouped or have an order.
 
 ghost use Rattle.std.specs.Prelude.{◌≤◌, length};
 

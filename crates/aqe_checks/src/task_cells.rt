@@ -29,7 +29,7 @@ fn cells_text(alloc: Global, output: &MapOutput) -> Result<String, Fail> {
 }
 
 /// The cells that a task gives.
-#[tactic(auto, using(crate::proofs::StageSteps::ready_built, crate::proofs::StageSteps::built_kind))]
+#[tactic(auto, using(crate::proofs::StageSteps::ready_built))]
 fn given(alloc: Global, ground: &Ground, body: &Body, kind: &str, k: u32) -> Result<String, Fail>
     requires { Ready (tables_of ground.now.tables) ground.now.outputs ground.now.maps body.now.plan body.now.parts body.now.width }
 {

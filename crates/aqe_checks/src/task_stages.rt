@@ -104,7 +104,7 @@ fn cell_count(kind: &StageKind) -> u32
 }
 
 /// What stage 0 keeps of each part of its body, which reads no stage.
-#[tactic(auto, using(crate::proofs::StageSteps::ready_built, crate::proofs::StageSteps::built_kind, crate::proofs::StageSteps::none_kept))]
+#[tactic(auto, using(crate::proofs::StageSteps::ready_built, crate::proofs::StageSteps::none_kept))]
 fn kept_outputs(
     alloc: Global,
     bare: &Ground,

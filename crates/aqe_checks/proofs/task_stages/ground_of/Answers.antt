@@ -7,4 +7,4 @@ pub returns-clause-stage : goal.returns-clause-stage
 returns-clause-stage c =
     let some : 0 < c.args.body.now.parts = search rules in
     stage_holds (tables_of c.args.bare.tables) c.args.bare.outputs c.args.kind.now c.args.body.now.plan c.in_ok-outputs.outputs
-    c.args.body.now.parts c.cell_count.result c.args.body.now.width c.requires.easy.built c.requires.ready c.in_ok-outputs.ensures c.cell_count.ensures some
+    c.args.body.now.parts c.cell_count.result c.args.body.now.width c.requires.easy.unsampled c.requires.ready c.in_ok-outputs.ensures c.cell_count.ensures some
