@@ -1,5 +1,5 @@
 #!/usr/bin/env python3
-"""Computes what the examples with groups, joins, unions and limits print, from the rules alone; it shares nothing with the program.
+"""Computes what the examples with groups, joins, unions, sorts and limits print, from the rules alone; it shares nothing with the program.
 
 Usage: examples/expected.py EXAMPLE     prints the example's expected.txt, or its cases.txt
        examples/expected.py --check     compares what it computes with the files of all its examples
@@ -12,6 +12,7 @@ import sys
 sys.dont_write_bytecode = True
 
 import joins  # noqa: E402
+import orders  # noqa: E402
 import unions  # noqa: E402
 from rules import *
 
@@ -282,10 +283,11 @@ def distinct():
     ]
 
 
-ONE_RUN = {"sales-by-region": sales_by_region, "having": having, "grouped-subquery": grouped_subquery, **joins.ONE_RUN, **unions.ONE_RUN}
+ONE_RUN = {"sales-by-region": sales_by_region, "having": having, "grouped-subquery": grouped_subquery, **joins.ONE_RUN, **unions.ONE_RUN, **orders.ONE_RUN}
 CASES = {
     **joins.CASES,
     **unions.CASES,
+    **orders.CASES,
     "groups": groups,
     "empty-groups": empty_groups,
     "null-groups": null_groups,

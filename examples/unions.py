@@ -17,6 +17,7 @@ def two_years():
     by_year = group(of_both, lambda year, *row: (year,), count(), total(lambda *row: row[4]))
     by_customer = group(union(older, newer), customer, count(), total(lambda *row: row[3]))
     years = group(of_both, lambda year, id, customer, *more: (year, customer))
+    largest = sort(of_both, desc(lambda year, id, customer, product, amount: amount), asc(lambda year, *row: year), asc(lambda year, id, *row: id))
     loyal = where(group(years, lambda year, customer: (customer,), count()), lambda customer, years: years == 2)
     return [
         ("year id customer product amount", of_both),
@@ -24,6 +25,8 @@ def two_years():
         ("year orders total", by_year),
         ("customer orders total", by_customer),
         ("customer", select(loyal, lambda customer, years: (customer,))),
+        ("year id customer product amount", limit(largest, 5)),
+        ("customer", sort(group(union(select(older, customer), select(newer, customer)), every), asc(lambda customer: customer))),
     ]
 
 
@@ -260,5 +263,5 @@ def unions():
     ]
 
 
-ONE_RUN = {"two-years": two_years, "distinct-pairs": distinct_pairs}
+ONE_RUN = {"two-years": fixed(two_years), "distinct-pairs": distinct_pairs}
 CASES = {"limit-and-offset": limit_and_offset, "unions": unions}

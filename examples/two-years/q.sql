@@ -17,4 +17,8 @@ GROUP BY customer;
 SELECT customer
 FROM (SELECT 2023 AS year, customer FROM orders_2023 UNION SELECT 2024, customer FROM orders_2024) years
 GROUP BY customer
-HAVING count(*) = 2
+HAVING count(*) = 2;
+-- the largest orders of both years together: ORDER BY and LIMIT behind a union are for the whole of it
+SELECT 2023 AS year, * FROM orders_2023 UNION ALL SELECT 2024, * FROM orders_2024 ORDER BY amount DESC, year, id LIMIT 5;
+-- and each customer, by name
+SELECT customer FROM orders_2023 UNION SELECT customer FROM orders_2024 ORDER BY customer
