@@ -5,8 +5,9 @@ use aqe_base::{MapId, ReduceId, StageId};
 use aqe_blocks::{Cells, MapOutput, Outputs, encode};
 use aqe_exchange::{write_hash, write_single};
 use aqe_expr::Expr;
-use aqe_logical::Exprs;
-use aqe_values::{Row, Rows, Value};
+use aqe_logical::{Exprs, SortKey, SortKeys};
+use aqe_ranges::{bounds, sample, write_range};
+use aqe_values::{Row, Rows, SortWay, Value};
 use std::alloc::Global;
 use std::test::Fail;
 
@@ -42,14 +43,49 @@ fn spread(alloc: Global, rows: &str) -> Result<String, Fail> {
     cells_text(alloc, &output)
 }
 
+/// The first column, upwards, as the key of an order.
+fn upwards(alloc: Global) -> Result<SortKeys, Fail> {
+    let mut keys = SortKeys::new(alloc);
+    keys.push(SortKey {
+        expr: Expr::Column(0),
+        way: SortWay {
+            descending: false,
+            nulls_last: false,
+        },
+    })?;
+    Ok(keys)
+}
+
+/// The rows in four cells by ranges of the keys, whose bounds are those of a sample of all keys.
+fn by_ranges(alloc: Global, keys: &SortKeys, rows: &Rows) -> Result<MapOutput, Fail> {
+    if keys.len() > 1000 {
+        return Err(Fail::new("many keys"));
+    }
+    let samples = sample(alloc, rows, keys)?;
+    let bounds = bounds(alloc, &samples, keys, 4)?;
+    Ok(write_range(alloc, rows, keys, &bounds, 4)?)
+}
+
+/// The rows in four cells by ranges of their first column.
+fn ranged(alloc: Global, rows: &str) -> Result<String, Fail> {
+    let output = by_ranges(alloc, &upwards(alloc)?, &rows_of(alloc, rows)?)?;
+    cells_text(alloc, &output)
+}
+
+/// Bounds of the five keys NULL, 1, 1, 2, 3 in order are those at 1, 2 and 3: 1, 1 and 2.
 #[test]
 fn rows_stand_in_the_cells_of_their_places(rt: HostRuntime) -> Result<(), Fail> {
     let alloc = rt.alloc();
-    for (rows, cells) in [
-        ("", "||||"),
-        ("1,a;2,b;1,c;3,d;~,e", "||2,b;~,e|1,a;1,c;3,d|"),
+    for (rows, by_hash, by_range) in [
+        ("", "||||", "||||"),
+        (
+            "1,a;2,b;1,c;3,d;~,e",
+            "||2,b;~,e|1,a;1,c;3,d|",
+            "1,a;1,c;~,e||2,b|3,d|",
+        ),
     ] {
-        assert_eq!(rt; spread(alloc, rows)?.as_str(), cells);
+        assert_eq!(rt; spread(alloc, rows)?.as_str(), by_hash);
+        assert_eq!(rt; ranged(alloc, rows)?.as_str(), by_range);
     }
     Ok(())
 }
